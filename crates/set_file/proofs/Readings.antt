@@ -1,0 +1,115 @@
+-- A reading, line by line: what the lines so far have done, and what the next one does. Assumes nothing.
+use mathlib.Core.Path.{_≡_, refl, sym, ap, subst, _∙_}
+use mathlib.Core.Bool.{Bool, true, false, cond}
+use mathlib.Core.List.{List, [], _∷_}
+use Prim.Native.Nat.{ℕ, zero, suc, _+_, _-_, _≤_, _<_}
+use native.Mathlib.Nat.{add-assoc, zero-add}
+use native.Mathlib.Numerals.{one-add}
+use native.Mathlib.Omega.{arith}
+use lib.ListN.{length}
+use Rattle.std.specs.declared.option.Option.{Option}
+use Rattle.std.specs.declared.option.Option.the-variants.{Some, None}
+use Rattle.std.specs.declared.result.Result.{Result}
+use Rattle.std.specs.declared.result.Result.the-variants.{Ok, Err}
+use Rattle.std.proofs.shelf.Tests.{cond-true, cond-false, le-leb, lt-leb}
+use Rattle.set_file.specs.declared.line.Entry.{Entry}
+use Rattle.set_file.specs.declared.line.Entry.the-variants.{Nothing, Vertex, Face}
+use Rattle.set_file.specs.declared.line.LineFault.{LineFault}
+use Rattle.set_file.specs.declared.line.LineFault.the-variants.{Memory}
+use Rattle.set_file.specs.declared.file.FileFault.{FileFault}
+use Rattle.set_file.specs.declared.file.FileFault.the-variants.{Size, Line}
+use Rattle.set_file.specs.Parts.{lines}
+use Rattle.set_file.specs.Files.{Lists, Reading, Memory-for, all, only, stopped, with-entry, one-less, spend, orShort, enter, entryAt, readLines, reading, Reads, short}
+
+-- how many pushes an entry takes
+abbrev pub cost : Entry → ℕ
+cost Nothing = 0
+cost (Vertex p) = 1
+cost (Face t) = 1
+
+spend-all : (e : Entry) → spend e all ≡ Some all
+spend-all Nothing = refl
+spend-all (Vertex p) = refl
+spend-all (Face t) = refl
+
+spend-only : (e : Entry) (k : ℕ) → spend e (only (cost e + k)) ≡ Some (only k)
+spend-only Nothing k = ap (λ n. Some (only n)) (zero-add k)
+spend-only (Vertex p) k = ap (λ n. one-less (only n)) (one-add k)
+spend-only (Face t) k = ap (λ n. one-less (only n)) (one-add k)
+
+-- a good line
+next-line : (m k : Memory-for) (line : List ℕ) (ls : List (List ℕ)) (n : ℕ) (s : Lists) (e : Entry) → entryAt line n s ≡ Ok e → spend e m ≡ Some k → readLines m (line ∷ ls) n s ≡ readLines k ls (n + 1) (with-entry e s)
+next-line m k line ls n s e h p =
+    ap (λ r. enter r m n s (λ t j. readLines j ls (n + 1) t)) h
+    ∙ ap (λ o. orShort o n s (λ j. readLines j ls (n + 1) (with-entry e s))) p
+
+-- a line that found no memory
+no-memory : (m : Memory-for) (line : List ℕ) (ls : List (List ℕ)) (n : ℕ) (s : Lists) (e : Entry) → entryAt line n s ≡ Ok e → spend e m ≡ None → readLines m (line ∷ ls) n s ≡ stopped s (Line (Memory n))
+no-memory m line ls n s e h p =
+    ap (λ r. enter r m n s (λ t j. readLines j ls (n + 1) t)) h
+    ∙ ap (λ o. orShort o n s (λ j. readLines j ls (n + 1) (with-entry e s))) p
+
+-- a bad line
+bad-line : (m : Memory-for) (line : List ℕ) (ls : List (List ℕ)) (n : ℕ) (s : Lists) (f : LineFault) → entryAt line n s ≡ Err f → readLines m (line ∷ ls) n s ≡ stopped s (Line f)
+bad-line m line ls n s f h = ap (λ r. enter r m n s (λ t j. readLines j ls (n + 1) t)) h
+
+-- The lines before `rest`, of which the first is line n, took the lists from `before` to `held`:
+-- what is left gives the whole, with memory for all and with memory for some.
+pub record Sofar (bytes rest : List ℕ) (n : ℕ) (before held : Lists) : Type 0 where
+  pub pushed : ℕ
+  pub limited : (k : ℕ) → readLines (only (pushed + k)) (lines bytes) 1 before ≡ readLines (only k) (lines rest) n held
+  pub unlimited : readLines all (lines bytes) 1 before ≡ readLines all (lines rest) n held
+
+pub at-start : (bytes : List ℕ) (s : Lists) → Sofar bytes bytes (0 + 1) s s
+at-start bytes s = record { pushed = 0; limited = λ k. ap (λ n. readLines (only n) (lines bytes) 1 s) (zero-add k); unlimited = refl }
+
+module _ (bytes rest : List ℕ) (n : ℕ) (before held : Lists) (line after : List ℕ) (so : Sofar bytes rest n before held) (cut : lines rest ≡ line ∷ lines after) where
+  here : (m : Memory-for) → readLines m (lines rest) n held ≡ readLines m (line ∷ lines after) n held
+  here m = ap (λ ls. readLines m ls n held) cut
+
+  pub after-line : (e : Entry) (longer : Lists) → entryAt line n held ≡ Ok e → longer ≡ with-entry e held → Sofar bytes after (n + 1) before longer
+  after-line e longer h p = record {
+      pushed = so .pushed + cost e;
+      limited = λ k.
+          ap (λ j. readLines (only j) (lines bytes) 1 before) (add-assoc (so .pushed) (cost e) k)
+          ∙ so .limited (cost e + k)
+          ∙ here (only (cost e + k))
+          ∙ next-line (only (cost e + k)) (only k) line (lines after) n held e h (spend-only e k)
+          ∙ ap (readLines (only k) (lines after) (n + 1)) (sym p);
+      unlimited =
+          so .unlimited ∙ here all
+          ∙ next-line all all line (lines after) n held e h (spend-all e)
+          ∙ ap (readLines all (lines after) (n + 1)) (sym p);
+    }
+
+  pub at-fault : (f : LineFault) → entryAt line n held ≡ Err f → readLines all (lines bytes) 1 before ≡ stopped held (Line f)
+  at-fault f h = so .unlimited ∙ here all ∙ bad-line all line (lines after) n held f h
+
+  pub at-short : (e : Entry) → entryAt line n held ≡ Ok e → spend e (only 0) ≡ None → readLines (only (so .pushed + 0)) (lines bytes) 1 before ≡ stopped held (Line (Memory n))
+  at-short e h p = so .limited 0 ∙ here (only 0) ∙ no-memory (only 0) line (lines after) n held e h p
+
+no-lines : (rest : List ℕ) → length rest ≤ 0 → lines rest ≡ []
+no-lines [] h = refl
+no-lines (b ∷ rest) h = absurd (omega arith)
+
+pub at-end : (bytes rest : List ℕ) (n : ℕ) (before held : Lists) → Sofar bytes rest n before held → length rest ≤ 0 → readLines all (lines bytes) 1 before ≡ record { held = held; answer = Ok tt }
+at-end bytes rest n before held so h = so .unlimited ∙ ap (λ ls. readLines all ls n held) (no-lines rest h)
+
+-- a file within the limit is its lines
+pub in-limit : (m : Memory-for) (limit : ℕ) (bytes : List ℕ) (s : Lists) → length bytes ≤ limit → reading m limit bytes s ≡ readLines m (lines bytes) 1 s
+in-limit m limit bytes s h = cond-true _ _ _ (le-leb (length bytes) limit h)
+
+-- a reading with memory for all serves whatever the answer
+pub reads-all : (limit : ℕ) (bytes : List ℕ) (before after : Lists) (r : Result (Unit {0}) FileFault) → reading all limit bytes before ≡ record { held = after; answer = r } → Reads limit bytes before after r
+reads-all limit bytes before after r e = record { memory = all; result = e; whole = λ _. e }
+
+pub too-long : (limit : ℕ) (bytes : List ℕ) (s : Lists) → limit < length bytes → Reads limit bytes s s (Err Size)
+too-long limit bytes s h = reads-all limit bytes s s (Err Size) (cond-false _ _ _ (lt-leb (length bytes) limit h))
+
+-- want of memory
+pub reads-short : (limit : ℕ) (bytes : List ℕ) (before after : Lists) (n k : ℕ) → length bytes ≤ limit → readLines (only k) (lines bytes) 1 before ≡ stopped after (Line (Memory n)) → Reads limit bytes before after (Err (Line (Memory n)))
+reads-short limit bytes before after n k h e = record {
+    memory = only k;
+    result = in-limit (only k) limit bytes before h ∙ e;
+    whole = λ no-short. let z : _≡_ {A = ℕ} 0 1 = cc in absurd (omega arith);
+  }

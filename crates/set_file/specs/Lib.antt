@@ -1,0 +1,6 @@
+pub mod Parts
+pub mod Numbers
+pub mod Tokens
+pub mod Lines
+pub mod Refusals
+pub mod Files

@@ -1,0 +1,98 @@
+// A whole set file, into the caller's lists.
+ghost use mathlib.Core.Path.{_≡_};
+ghost use Prim.Native.Nat.{ℕ, _≤_};
+ghost use Rattle.set_file.specs.declared.file.FileFault.the-variants.{Line};
+ghost use Rattle.set_file.specs.Files.{lists, Appended, Reads};
+ghost use Rattle.set_file.specs.Refusals.{refusalOf};
+use crate::line::Entry;
+use crate::line::LineFault;
+use crate::line::LineFaultDebug;
+use crate::line::LineFaultPartialEq;
+use crate::line::next_line;
+use crate::line::read_line;
+use crate::word::WordFault;
+use mesh::Point;
+use mesh::Triangle;
+
+// What is wrong with a file.
+#[derive(Clone, Copy, Debug, PartialEq, Eq)]
+pub enum FileFault {
+    // It has more bytes than the limit.
+    Size,
+    // One of its lines is wrong.
+    Line(LineFault),
+}
+
+pub impl From<LineFault> for FileFault as FileFromLine {
+    ghost converts = { λ e r. r ≡ Line e };
+
+    fn from(e: LineFault) -> FileFault {
+        FileFault::Line(e)
+    }
+}
+
+// What a fault tells: the number of the question that was answered with no, the line and the word,
+// both counted from 1, and 0 where the question is not about one line or one word.
+#[derive(Clone, Copy, Debug, PartialEq, Eq)]
+pub struct Refusal {
+    pub number: u32,
+    pub line: usize,
+    pub word: usize,
+}
+
+impl FileFault {
+    // What the fault tells; want of memory is no refusal of the format, and has no number.
+    pub fn refusal(self) -> Option<Refusal>
+        ensures { λ r. ⌜ r ≡ refusalOf self ⌝ }
+    {
+        let (number, line, word) = match self {
+            FileFault::Size => (1, 0, 0),
+            FileFault::Line(LineFault::First(line)) => (2, line, 1),
+            FileFault::Line(LineFault::Count(line)) => (3, line, 0),
+            FileFault::Line(LineFault::Word(WordFault::Form(at))) => (4, at.line, at.word),
+            FileFault::Line(LineFault::Word(WordFault::Range(at))) => (5, at.line, at.word),
+            FileFault::Line(LineFault::Same(line)) => (6, line, 0),
+            FileFault::Line(LineFault::Full(line)) => (7, line, 0),
+            FileFault::Line(LineFault::Memory(_)) => return None,
+        };
+        Some(Refusal { number, line, word })
+    }
+}
+
+// Appends the entry of line `at`.
+fn append(entry: Entry, at: usize, points: &mut Vec<Point>, triangles: &mut Vec<Triangle>) -> Result<(), LineFault>
+    ensures { λ r. ⌜ Appended entry at (lists (now (points .entry)) (now (triangles .entry))) (lists (now (points .exit)) (now (triangles .exit))) r ⌝ }
+{
+    match entry {
+        Entry::Nothing => Ok(()),
+        Entry::Vertex(p) => match points.push(p) {
+            Ok(()) => Ok(()),
+            Err(_) => Err(LineFault::Memory(at)),
+        },
+        Entry::Face(t) => match triangles.push(t) {
+            Ok(()) => Ok(()),
+            Err(_) => Err(LineFault::Memory(at)),
+        },
+    }
+}
+
+// Reads a file of at most `limit` bytes, and appends its points and triangles to the lists.
+// At a fault the entries of the lines before it stay, and nothing else has changed.
+pub fn read(bytes: &[u8], limit: usize, points: &mut Vec<Point>, triangles: &mut Vec<Triangle>) -> Result<(), FileFault>
+    ensures { λ r. ⌜ Reads limit (now (bytes .entry)) (lists (now (points .entry)) (now (triangles .entry))) (lists (now (points .exit)) (now (triangles .exit))) r ⌝ }
+{
+    if bytes.len() > limit {
+        return Err(FileFault::Size);
+    }
+    let mut rest = bytes;
+    let mut before: usize = 0;
+    while rest.len() > 0 {
+        let (line, after) = next_line(rest);
+        let at = before + 1;
+        let entry = read_line(line, at, points.len(), triangles.len())?;
+        append(entry, at, points, triangles)?;
+        rest = after;
+        before = at;
+    }
+    Ok(())
+}

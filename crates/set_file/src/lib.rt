@@ -1,0 +1,15 @@
+// Reads a set file: the points and triangles of a stage set, from bytes.
+// The format is written down in specs/, from words to the whole file, and in docs/SET-FILE.md.
+mod word;
+mod token;
+mod line;
+mod file;
+
+pub use file::FileFault;
+pub use file::FileFromLine;
+pub use file::Refusal;
+pub use file::read;
+pub use line::LineFault;
+pub use line::LineFromWord;
+pub use word::Place;
+pub use word::WordFault;
