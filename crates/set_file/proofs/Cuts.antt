@@ -51,6 +51,10 @@ pub cut-line : (bytes line after : List ℕ) → 0 < length bytes → line ≡ t
 cut-line [] line after h f b = absurd (omega arith)
 cut-line (x ∷ bytes) line after h f b = first-piece ends x bytes ∙ (λ i. sym f i ∷ lines (tail (sym b i)))
 
+pub no-lines : (rest : List ℕ) → length rest ≤ 0 → lines rest ≡ []
+no-lines [] h = refl
+no-lines (b ∷ rest) h = absurd (omega arith)
+
 pub tail-cut : (l : List ℕ) → take (length l - 1) (drop 1 l) ≡ tail l
 tail-cut l = take-rest l 1 ∙ sym (tail-is l)
 

@@ -19,6 +19,7 @@ use Rattle.set_file.specs.declared.line.LineFault.the-variants.{Memory}
 use Rattle.set_file.specs.declared.file.FileFault.{FileFault}
 use Rattle.set_file.specs.declared.file.FileFault.the-variants.{Size, Line}
 use Rattle.set_file.specs.Parts.{lines}
+use Rattle.set_file.proofs.Cuts.{no-lines}
 use Rattle.set_file.specs.Files.{Lists, Reading, Memory-for, all, only, stopped, with-entry, one-less, spend, orShort, enter, entryAt, readLines, reading, Reads, short}
 
 -- how many pushes an entry takes
@@ -27,7 +28,7 @@ cost Nothing = 0
 cost (Vertex p) = 1
 cost (Face t) = 1
 
-spend-all : (e : Entry) → spend e all ≡ Some all
+pub spend-all : (e : Entry) → spend e all ≡ Some all
 spend-all Nothing = refl
 spend-all (Vertex p) = refl
 spend-all (Face t) = refl
@@ -38,19 +39,19 @@ spend-only (Vertex p) k = ap (λ n. one-less (only n)) (one-add k)
 spend-only (Face t) k = ap (λ n. one-less (only n)) (one-add k)
 
 -- a good line
-next-line : (m k : Memory-for) (line : List ℕ) (ls : List (List ℕ)) (n : ℕ) (s : Lists) (e : Entry) → entryAt line n s ≡ Ok e → spend e m ≡ Some k → readLines m (line ∷ ls) n s ≡ readLines k ls (n + 1) (with-entry e s)
+pub next-line : (m k : Memory-for) (line : List ℕ) (ls : List (List ℕ)) (n : ℕ) (s : Lists) (e : Entry) → entryAt line n s ≡ Ok e → spend e m ≡ Some k → readLines m (line ∷ ls) n s ≡ readLines k ls (n + 1) (with-entry e s)
 next-line m k line ls n s e h p =
     ap (λ r. enter r m n s (λ t j. readLines j ls (n + 1) t)) h
     ∙ ap (λ o. orShort o n s (λ j. readLines j ls (n + 1) (with-entry e s))) p
 
 -- a line that found no memory
-no-memory : (m : Memory-for) (line : List ℕ) (ls : List (List ℕ)) (n : ℕ) (s : Lists) (e : Entry) → entryAt line n s ≡ Ok e → spend e m ≡ None → readLines m (line ∷ ls) n s ≡ stopped s (Line (Memory n))
+pub no-memory : (m : Memory-for) (line : List ℕ) (ls : List (List ℕ)) (n : ℕ) (s : Lists) (e : Entry) → entryAt line n s ≡ Ok e → spend e m ≡ None → readLines m (line ∷ ls) n s ≡ stopped s (Line (Memory n))
 no-memory m line ls n s e h p =
     ap (λ r. enter r m n s (λ t j. readLines j ls (n + 1) t)) h
     ∙ ap (λ o. orShort o n s (λ j. readLines j ls (n + 1) (with-entry e s))) p
 
 -- a bad line
-bad-line : (m : Memory-for) (line : List ℕ) (ls : List (List ℕ)) (n : ℕ) (s : Lists) (f : LineFault) → entryAt line n s ≡ Err f → readLines m (line ∷ ls) n s ≡ stopped s (Line f)
+pub bad-line : (m : Memory-for) (line : List ℕ) (ls : List (List ℕ)) (n : ℕ) (s : Lists) (f : LineFault) → entryAt line n s ≡ Err f → readLines m (line ∷ ls) n s ≡ stopped s (Line f)
 bad-line m line ls n s f h = ap (λ r. enter r m n s (λ t j. readLines j ls (n + 1) t)) h
 
 -- The lines before `rest`, of which the first is line n, took the lists from `before` to `held`:
@@ -88,10 +89,6 @@ module _ (bytes rest : List ℕ) (n : ℕ) (before held : Lists) (line after : L
   pub at-short : (e : Entry) → entryAt line n held ≡ Ok e → spend e (only 0) ≡ None → readLines (only (so .pushed + 0)) (lines bytes) 1 before ≡ stopped held (Line (Memory n))
   at-short e h p = so .limited 0 ∙ here (only 0) ∙ no-memory (only 0) line (lines after) n held e h p
 
-no-lines : (rest : List ℕ) → length rest ≤ 0 → lines rest ≡ []
-no-lines [] h = refl
-no-lines (b ∷ rest) h = absurd (omega arith)
-
 pub at-end : (bytes rest : List ℕ) (n : ℕ) (before held : Lists) → Sofar bytes rest n before held → length rest ≤ 0 → readLines all (lines bytes) 1 before ≡ record { held = held; answer = Ok tt }
 at-end bytes rest n before held so h = so .unlimited ∙ ap (λ ls. readLines all ls n held) (no-lines rest h)
 
@@ -107,9 +104,9 @@ pub too-long : (limit : ℕ) (bytes : List ℕ) (s : Lists) → limit < length b
 too-long limit bytes s h = reads-all limit bytes s s (Err Size) (cond-false _ _ _ (lt-leb (length bytes) limit h))
 
 -- want of memory
-pub reads-short : (limit : ℕ) (bytes : List ℕ) (before after : Lists) (n k : ℕ) → length bytes ≤ limit → readLines (only k) (lines bytes) 1 before ≡ stopped after (Line (Memory n)) → Reads limit bytes before after (Err (Line (Memory n)))
-reads-short limit bytes before after n k h e = record {
+pub reads-short : (limit : ℕ) (bytes : List ℕ) (before held after : Lists) (r : Result (Unit {0}) FileFault) (n k : ℕ) → length bytes ≤ limit → readLines (only k) (lines bytes) 1 before ≡ stopped held (Line (Memory n)) → after ≡ held → r ≡ Err (Line (Memory n)) → Reads limit bytes before after r
+reads-short limit bytes before held after r n k h e a t = record {
     memory = only k;
-    result = in-limit (only k) limit bytes before h ∙ e;
-    whole = λ no-short. let z : _≡_ {A = ℕ} 0 1 = cc in absurd (omega arith);
+    result = in-limit (only k) limit bytes before h ∙ e ∙ (λ i. record { held = sym a i; answer = sym t i });
+    whole = λ known. let lost : short r ≡ true = ap short t in let z : true ≡ false = sym lost ∙ known in let y : _≡_ {A = ℕ} 0 1 = cc in absurd (omega arith);
   }

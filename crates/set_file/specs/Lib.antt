@@ -4,3 +4,6 @@ pub mod Tokens
 pub mod Lines
 pub mod Refusals
 pub mod Files
+pub mod Places
+pub mod Laws
+pub mod Examples

@@ -3,7 +3,7 @@ use mathlib.Core.Bool.{Bool, true, false, cond, _&&_}
 use mathlib.Core.List.{List, [], _∷_}
 use Prim.Native.Nat.{ℕ, _+_, _-_, _*_}
 use lib.Dec.{leb, eqb}
-use lib.IntN.{ℤ, pos, negsuc, negℤ}
+use lib.IntN.{ℤ, pos, negsuc, negℤ, natAbs}
 use lib.Signed.{leZ}
 use lib.ListN.{length}
 use Rattle.std.specs.declared.option.Option.{Option}
@@ -41,19 +41,28 @@ abbrev pub numberOf : List ℕ → Option ℤ
 numberOf [] = None
 numberOf (b ∷ bs) = cond (eqb b 45) (minus (unsignedOf bs)) (plus (unsignedOf (b ∷ bs)))
 
+-- a number that has to pass a test, written by the word at a place
+abbrev pub within : (ℤ → Bool) → Option ℤ → Place → Result ℤ WordFault
+within test None at = Err (Form at)
+within test (Some v) at = cond (test v) (Ok v) (Err (Range at))
+
 -- a coordinate lies in −10,000 to 10,000
 abbrev pub inLimits : ℤ → Bool
 inLimits v = leZ (negsuc 9999) v && leZ v (pos 10000)
 
 -- the coordinate that a word writes
 abbrev pub coordinateOf : List ℕ → Place → Result ℤ WordFault
-coordinateOf word at = elim (numberOf word) [ None ↦ Err (Form at) | Some v ↦ cond (inLimits v) (Ok v) (Err (Range at)) ]
+coordinateOf word at = within inLimits (numberOf word) at
 
--- v is the number, from 1, of one of n points: the result counts from 0
-abbrev pub cornerAt : ℤ → ℕ → Place → Result ℕ WordFault
-cornerAt (pos v) n at = cond (leb 1 v && leb v n) (Ok (v - 1)) (Err (Range at))
-cornerAt (negsuc v) n at = Err (Range at)
+-- the number of one of n earlier points, counted from 1
+abbrev pub earlier : ℕ → ℤ → Bool
+earlier n v = leZ (pos 1) v && leZ v (pos n)
+
+-- a point's number, counted from 0
+abbrev pub fromZero : Result ℤ WordFault → Result ℕ WordFault
+fromZero (Ok v) = Ok (natAbs v - 1)
+fromZero (Err e) = Err e
 
 -- the corner that a word names, after n points
 abbrev pub cornerOf : List ℕ → ℕ → Place → Result ℕ WordFault
-cornerOf word n at = elim (numberOf word) [ None ↦ Err (Form at) | Some v ↦ cornerAt v n at ]
+cornerOf word n at = fromZero (within (earlier n) (numberOf word) at)

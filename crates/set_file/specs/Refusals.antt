@@ -11,7 +11,7 @@ use Rattle.set_file.specs.declared.file.FileFault.the-variants.{Size, Line}
 use Rattle.set_file.specs.declared.file.Refusal.{Refusal}
 
 abbrev pub refused : ℕ → ℕ → ℕ → Option Refusal
-refused n l w = Some (record { number = n; line = l; word = w })
+refused n l w = Some (record { number = n; at = record { line = l; word = w } })
 
 abbrev pub wordRefusal : WordFault → Option Refusal
 wordRefusal (Form at) = refused 4 (at .line) (at .word)

@@ -10,6 +10,9 @@ use crate::line::LineFaultDebug;
 use crate::line::LineFaultPartialEq;
 use crate::line::next_line;
 use crate::line::read_line;
+use crate::word::Place;
+use crate::word::PlaceDebug;
+use crate::word::PlacePartialEq;
 use crate::word::WordFault;
 use mesh::Point;
 use mesh::Triangle;
@@ -31,13 +34,12 @@ pub impl From<LineFault> for FileFault as FileFromLine {
     }
 }
 
-// What a fault tells: the number of the question that was answered with no, the line and the word,
-// both counted from 1, and 0 where the question is not about one line or one word.
+// What a fault tells: the number of the question that was answered with no, and where.
+// The line is 0 where the question is not about one line, and the word where it is not about one word.
 #[derive(Clone, Copy, Debug, PartialEq, Eq)]
 pub struct Refusal {
     pub number: u32,
-    pub line: usize,
-    pub word: usize,
+    pub at: Place,
 }
 
 impl FileFault {
@@ -55,7 +57,7 @@ impl FileFault {
             FileFault::Line(LineFault::Full(line)) => (7, line, 0),
             FileFault::Line(LineFault::Memory(_)) => return None,
         };
-        Some(Refusal { number, line, word })
+        Some(Refusal { number, at: Place { line, word } })
     }
 }
 

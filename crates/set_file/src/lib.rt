@@ -4,12 +4,17 @@ mod word;
 mod token;
 mod line;
 mod file;
+mod locate;
+mod laws;
 
 pub use file::FileFault;
 pub use file::FileFromLine;
 pub use file::Refusal;
 pub use file::read;
+pub use laws::reading_examples;
+pub use laws::reading_laws;
 pub use line::LineFault;
 pub use line::LineFromWord;
+pub use locate::word_at;
 pub use word::Place;
 pub use word::WordFault;

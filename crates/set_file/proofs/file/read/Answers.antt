@@ -21,17 +21,6 @@ entry c =
     let f = c .len-in-loop-rest .ensures ∙ c .loop-rest .triangles .ok .0 in
     sym (c .read-line .ensures ∙ (λ i. entryOf (c .next-line .result .0 .now) (c .loop-rest .before + 1) (e i) (f i)))
 
-pub returns-in-Break-entry : need.returns-in-Break-entry
-returns-in-Break-entry c =
-    let p = err-from-errBy (c .from-residual .result) (c .from-residual .ensures .1) in
-    let d = need.at·returns-in-Break-entry c .After-read-line in
-    let s = lists (c .loop-rest .points) (c .loop-rest .triangles) in
-    let short : length (c .args .bytes .now) ≤ c .args .limit = omega arith in
-    rw (p .1, p .2)
-    (reads-all _ _ _ _ _
-    (in-limit _ (c .args .limit) (c .args .bytes .now) _ short
-    ∙ at-fault (c .args .bytes .now) (c .loop-rest .rest .now) (c .loop-rest .before + 1) _ s (c .next-line .result .0 .now) (c .next-line .result .1 .now) (c .loop-rest .inv .0) (c .next-line .ensures .cut (omega arith)) _ (entry d ∙ c .in-Break-entry .was tt)))
-
 pub returns-in-Break-append : need.returns-in-Break-append
 returns-in-Break-append c =
     let p = err-from-errBy (c .from-residual-in-Break-append .result) (c .from-residual-in-Break-append .ensures .1) in
@@ -43,8 +32,7 @@ returns-in-Break-append c =
     let short : length bytes ≤ c .args .limit = omega arith in
     let n = c .loop-rest .before + 1 in
     let lost = at-short bytes (c .loop-rest .rest .now) n before s (c .next-line .result .0 .now) (c .next-line .result .1 .now) (c .loop-rest .inv .0) (c .next-line .ensures .cut (omega arith)) (c .in-Continue-entry .entry) (entry d ∙ c .in-Continue-entry .was tt) (h .2) in
-    let told = p .1 ∙ ap Err (p .2 ∙ ap Line (h .0)) in
-    subst (λ a. Reads (c .args .limit) bytes before a (c .from-residual-in-Break-append .result)) (sym (h .1)) (subst (λ r. Reads (c .args .limit) bytes before s r) (sym told) (reads-short (c .args .limit) bytes before s n (c .loop-rest .inv .0 .pushed + 0) short lost))
+    reads-short (c .args .limit) bytes before s _ _ n (c .loop-rest .inv .0 .pushed + 0) short lost (h .1) (p .1 ∙ ap Err (p .2 ∙ ap Line (h .0)))
 
 pub loop-rest-again : need.loop-rest-again
 loop-rest-again c =
