@@ -17,6 +17,10 @@ use crate::word::WordFault;
 use mesh::Point;
 use mesh::Triangle;
 
+// How long a set file may be: for the library, and for the program that outlines a set.
+pub const LIBRARY_LIMIT: usize = 1_048_576;
+pub const PROGRAM_LIMIT: usize = 8_192;
+
 // What is wrong with a file.
 #[derive(Clone, Copy, Debug, PartialEq, Eq)]
 pub enum FileFault {

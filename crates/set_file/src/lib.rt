@@ -8,8 +8,14 @@ mod locate;
 mod laws;
 
 pub use file::FileFault;
+pub use file::FileFaultDebug;
+pub use file::FileFaultPartialEq;
 pub use file::FileFromLine;
+pub use file::LIBRARY_LIMIT;
+pub use file::PROGRAM_LIMIT;
 pub use file::Refusal;
+pub use file::RefusalDebug;
+pub use file::RefusalPartialEq;
 pub use file::read;
 pub use laws::reading_examples;
 pub use laws::reading_laws;

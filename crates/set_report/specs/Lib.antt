@@ -1,0 +1,4 @@
+pub mod Bounds
+pub mod Shown
+pub mod Reports
+pub mod Texts
