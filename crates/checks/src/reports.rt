@@ -14,7 +14,11 @@ fn says(heap: Global, file: &[u8], text: &str) -> Result<(), Fail> {
 #[test]
 fn refused_files(rt: LibcRuntime) -> Result<(), Fail> {
     let heap = rt.alloc();
-    says(heap, b"", "points: 0\ntriangles: 0\nbox: none\nthis set can be loaded\n")?;
+    says(
+        heap,
+        b"",
+        "points: 0\ntriangles: 0\nbox: none\nthis set can be loaded\n",
+    )?;
     says(
         heap,
         b"v -1 2 3\nv 4 -5 6\nvn 0 0 1",
@@ -30,7 +34,16 @@ fn refused_files(rt: LibcRuntime) -> Result<(), Fail> {
 #[test]
 fn words_as_text(rt: LibcRuntime) -> Result<(), Fail> {
     let heap = rt.alloc();
-    check_eq(shown_word(heap, b"a\\b\x00\x7f\xe9~!")?.as_str(), "a\\x5cb\\x00\\x7f\\xe9~!")?;
-    check_eq(shown_word(heap, b"0123456789012345678901234567890123456789")?.as_str(), "0123456789012345678901234567890123456789")?;
-    check_eq(shown_word(heap, b"01234567890123456789012345678901234567890")?.as_str(), "0123456789012345678901234567890123456789...")
+    check_eq(
+        shown_word(heap, b"a\\b\x00\x7f\xe9~!")?.as_str(),
+        "a\\x5cb\\x00\\x7f\\xe9~!",
+    )?;
+    check_eq(
+        shown_word(heap, b"0123456789012345678901234567890123456789")?.as_str(),
+        "0123456789012345678901234567890123456789",
+    )?;
+    check_eq(
+        shown_word(heap, b"01234567890123456789012345678901234567890")?.as_str(),
+        "0123456789012345678901234567890123456789...",
+    )
 }

@@ -29,11 +29,32 @@ struct Case {
 }
 
 const fn good(file: &'static [u8], points: usize, triangles: usize) -> Case {
-    Case { file, number: 0, line: 0, word: 0, points, triangles }
+    Case {
+        file,
+        number: 0,
+        line: 0,
+        word: 0,
+        points,
+        triangles,
+    }
 }
 
-const fn bad(file: &'static [u8], number: u32, line: usize, word: usize, points: usize, triangles: usize) -> Case {
-    Case { file, number, line, word, points, triangles }
+const fn bad(
+    file: &'static [u8],
+    number: u32,
+    line: usize,
+    word: usize,
+    points: usize,
+    triangles: usize,
+) -> Case {
+    Case {
+        file,
+        number,
+        line,
+        word,
+        points,
+        triangles,
+    }
 }
 
 fn told(answer: Result<(), FileFault>) -> Option<Refusal> {
@@ -43,11 +64,16 @@ fn told(answer: Result<(), FileFault>) -> Option<Refusal> {
     }
 }
 
+fn refused(number: u32, line: usize, word: usize) -> Option<Refusal> {
+    let at = Place { line, word };
+    Some(Refusal { number, at })
+}
+
 fn expected(case: Case) -> Option<Refusal> {
     if case.number == 0 {
         return None;
     }
-    Some(Refusal { number: case.number, at: Place { line: case.line, word: case.word } })
+    refused(case.number, case.line, case.word)
 }
 
 fn holds(heap: Global, case: Case) -> Result<(), Fail> {
@@ -127,7 +153,14 @@ fn faces(rt: LibcRuntime) -> Result<(), Fail> {
         bad(b"v 0 0 0\nv 1 0 0\nv 0 1 0\nf 1 1 2", 6, 4, 0, 3, 0),
         bad(b"v 0 0 0\nv 1 0 0\nv 0 1 0\nf 1 2 2", 6, 4, 0, 3, 0),
         bad(b"v 0 0 0\nv 1 0 0\nv 0 1 0\nf 3 2 3", 6, 4, 0, 3, 0),
-        bad(b"v 0 0 0\nv 1 0 0\nv 0 1 0\nf 1 2 3\n# again\nf 3 2 1\nf 1 2", 3, 7, 0, 3, 2),
+        bad(
+            b"v 0 0 0\nv 1 0 0\nv 0 1 0\nf 1 2 3\n# again\nf 3 2 1\nf 1 2",
+            3,
+            7,
+            0,
+            3,
+            2,
+        ),
     ];
     for case in cases {
         holds(rt.alloc(), case)?;
@@ -151,7 +184,7 @@ fn limit_holds(heap: Global, limit: usize) -> Result<(), Fail> {
     check(read(file.as_slice(), limit, &mut points, &mut triangles).is_ok())?;
     file.push(b'#')?;
     let answer = read(file.as_slice(), limit, &mut points, &mut triangles);
-    check_eq(told(answer), Some(Refusal { number: 1, at: Place { line: 0, word: 0 } }))
+    check_eq(told(answer), refused(1, 0, 0))
 }
 
 #[test]
@@ -170,11 +203,16 @@ fn full_lists(rt: LibcRuntime) -> Result<(), Fail> {
         points.push(Point { x: 0, y: 0, z: 0 })?;
         triangles.push(Triangle { a: 0, b: 1, c: 2 })?;
     }
-    let answer = read(b"v 1 2 3\nf 1 2 65536\nf 2 1 3", PROGRAM_LIMIT, &mut points, &mut triangles);
-    check_eq(told(answer), Some(Refusal { number: 7, at: Place { line: 3, word: 0 } }))?;
+    let answer = read(
+        b"v 1 2 3\nf 1 2 65536\nf 2 1 3",
+        PROGRAM_LIMIT,
+        &mut points,
+        &mut triangles,
+    );
+    check_eq(told(answer), refused(7, 3, 0))?;
     check_eq(triangles.len(), 65536)?;
     let answer = read(b"v 1 2 3", PROGRAM_LIMIT, &mut points, &mut triangles);
-    check_eq(told(answer), Some(Refusal { number: 7, at: Place { line: 1, word: 0 } }))?;
+    check_eq(told(answer), refused(7, 1, 0))?;
     check_eq(points.len(), 65536)
 }
 
@@ -182,8 +220,13 @@ fn full_lists(rt: LibcRuntime) -> Result<(), Fail> {
 fn lists_are_appended(rt: LibcRuntime) -> Result<(), Fail> {
     let mut points = vec![in rt.alloc(); Point { x: 7, y: 8, z: 9 }]?;
     let mut triangles = vec![in rt.alloc(); Triangle { a: 5, b: 6, c: 7 }]?;
-    let answer = read(b"v 1 2 3\nv -4 5 -6\nf 3 1 2\nv 0 0", PROGRAM_LIMIT, &mut points, &mut triangles);
-    check_eq(told(answer), Some(Refusal { number: 3, at: Place { line: 4, word: 0 } }))?;
+    let answer = read(
+        b"v 1 2 3\nv -4 5 -6\nf 3 1 2\nv 0 0",
+        PROGRAM_LIMIT,
+        &mut points,
+        &mut triangles,
+    );
+    check_eq(told(answer), refused(3, 4, 0))?;
     check(points.len() == 3)?;
     check_eq(points[0], Point { x: 7, y: 8, z: 9 })?;
     check_eq(points[1], Point { x: 1, y: 2, z: 3 })?;

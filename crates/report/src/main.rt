@@ -11,7 +11,9 @@ fn run(rt: &LibcRuntime) -> Result<bool, AnyError> {
     let heap = rt.alloc();
     let mut bytes = Vec::new(heap);
     // One byte past the limit is enough to see that a file is too long.
-    rt.stdin().take(LIBRARY_LIMIT as u64 + 1).read_to_end(&mut bytes)?;
+    rt.stdin()
+        .take(LIBRARY_LIMIT as u64 + 1)
+        .read_to_end(&mut bytes)?;
     let report = report_on(heap, bytes.as_slice());
     rt.print(report_text(heap, &report, bytes.as_slice())?)?;
     Ok(report.fault.is_none())

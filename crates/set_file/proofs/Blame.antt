@@ -119,9 +119,9 @@ module _ (line : List ℕ) (n points triangles : ℕ) where
     key-names ws w h =
         by-test (eqb (length key) 1) (byKey (getD key 0 0) ws n points triangles) (Err (First n)) f h
         (λ t p.
-          by-test (eqb (getD key 0 0) 118) (vertexOf ws n points) (cond (eqb (getD key 0 0) 102) (faceOf ws n points triangles) (Err (First n))) f p
-          (λ u q. vertexOf-names ws w q)
-          (λ u q. by-test (eqb (getD key 0 0) 102) (faceOf ws n points triangles) (Err (First n)) f q (λ v r. faceOf-names ws w r) (λ v r. first-names r)))
+        by-test (eqb (getD key 0 0) 118) (vertexOf ws n points) (cond (eqb (getD key 0 0) 102) (faceOf ws n points triangles) (Err (First n))) f p
+        (λ u q. vertexOf-names ws w q)
+        (λ u q. by-test (eqb (getD key 0 0) 102) (faceOf ws n points triangles) (Err (First n)) f q (λ v r. faceOf-names ws w r) (λ v r. first-names r)))
         (λ t p. first-names p)
 
   words-name : (f : LineFault) (ws : List (List ℕ)) → words line ≡ ws → byWords ws n points triangles ≡ Err f → Told f

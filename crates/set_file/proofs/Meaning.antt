@@ -59,15 +59,15 @@ module _ (m k : Memory-for) (l : List ℕ) (ls : List (List ℕ)) (n : ℕ) (s :
 
   refused-more : Refused ls (n + 1) (with-entry e s) r → Refused (l ∷ ls) n s r
   refused-more d = record {
-      good = l ∷ d .good;
-      bad = d .bad;
-      more = d .more;
-      fault = d .fault;
-      cut = ap (λ (xs : List (List ℕ)). l ∷ xs) (d .cut);
-      led = (e, h, d .led);
-      found = ap (λ j. entryAt (d .bad) j (r .held)) (past n (d .good) l) ∙ d .found;
-      answer = d .answer;
-    }
+    good = l ∷ d .good;
+    bad = d .bad;
+    more = d .more;
+    fault = d .fault;
+    cut = ap (λ (xs : List (List ℕ)). l ∷ xs) (d .cut);
+    led = (e, h, d .led);
+    found = ap (λ j. entryAt (d .bad) j (r .held)) (past n (d .good) l) ∙ d .found;
+    answer = d .answer;
+  }
 
   short-more : Short k ls (n + 1) (with-entry e s) r → Short m (l ∷ ls) n s r
   short-more d =
@@ -97,18 +97,30 @@ module _ (m : Memory-for) (l : List ℕ) (ls : List (List ℕ)) (n : ℕ) (s : L
 
   refused-here : (f : LineFault) → entryAt l n s ≡ Err f → Here (stopped s (Line f))
   refused-here f h = inr (inl (record {
-      good = []; bad = l; more = ls; fault = f; cut = refl; led = refl;
-      found = ap (λ i. entryAt l i s) (add-zero n) ∙ h;
-      answer = refl;
-    }))
+    good = [];
+    bad = l;
+    more = ls;
+    fault = f;
+    cut = refl;
+    led = refl;
+    found = ap (λ i. entryAt l i s) (add-zero n) ∙ h;
+    answer = refl;
+  }))
 
   short-here : (e : Entry) → entryAt l n s ≡ Ok e → spend e m ≡ None → Here (stopped s (Line (Memory n)))
   short-here e h p = inr (inr (record {
-      good = []; last = l; more = ls; entry = e; room = 0; limited = spent e m p; cut = refl; led = refl;
-      found = ap (λ i. entryAt l i s) (add-zero n) ∙ h;
-      wants = ap (spend e) (sym (spent e m p)) ∙ p;
-      answer = ap (λ i. Err (Line (Memory i))) (sym (add-zero n));
-    }))
+    good = [];
+    last = l;
+    more = ls;
+    entry = e;
+    room = 0;
+    limited = spent e m p;
+    cut = refl;
+    led = refl;
+    found = ap (λ i. entryAt l i s) (add-zero n) ∙ h;
+    wants = ap (spend e) (sym (spent e m p)) ∙ p;
+    answer = ap (λ i. Err (Line (Memory i))) (sym (add-zero n));
+  }))
 
   by-memory : (e : Entry) → entryAt l n s ≡ Ok e → ((k : Memory-for) → Ending k ls (n + 1) (with-entry e s) (readLines k ls (n + 1) (with-entry e s))) → (o : Option Memory-for) → spend e m ≡ o → Here (readLines m (l ∷ ls) n s)
   by-memory e h later None p = subst Here (sym (no-memory m l ls n s e h p)) (short-here e h p)
@@ -144,10 +156,11 @@ good-files limit bytes s t h p = in-limit all limit bytes s h ∙ led (lines byt
 
 extends-none : (s t : Lists) → t ≡ s → Extends s t
 extends-none s t e = record {
-    new-points = []; new-triangles = [];
-    points = ap (λ (x : Lists). x .points) e ∙ sym (append-nil (s .points));
-    triangles = ap (λ (x : Lists). x .triangles) e ∙ sym (append-nil (s .triangles));
-  }
+  new-points = [];
+  new-triangles = [];
+  points = ap (λ (x : Lists). x .points) e ∙ sym (append-nil (s .points));
+  triangles = ap (λ (x : Lists). x .triangles) e ∙ sym (append-nil (s .triangles));
+}
 
 extends-entry : (e : Entry) (s : Lists) → Extends s (with-entry e s)
 extends-entry Nothing s = extends-none s s refl
@@ -156,11 +169,11 @@ extends-entry (Face t) s = record { new-points = []; new-triangles = t ∷ []; p
 
 extends-more : (s t u : Lists) → Extends s t → Extends t u → Extends s u
 extends-more s t u a b = record {
-    new-points = a .new-points ++ b .new-points;
-    new-triangles = a .new-triangles ++ b .new-triangles;
-    points = b .points ∙ ap (λ (l : List Point). l ++ b .new-points) (a .points) ∙ append-assoc (s .points) (a .new-points) (b .new-points);
-    triangles = b .triangles ∙ ap (λ (l : List Triangle). l ++ b .new-triangles) (a .triangles) ∙ append-assoc (s .triangles) (a .new-triangles) (b .new-triangles);
-  }
+  new-points = a .new-points ++ b .new-points;
+  new-triangles = a .new-triangles ++ b .new-triangles;
+  points = b .points ∙ ap (λ (l : List Point). l ++ b .new-points) (a .points) ∙ append-assoc (s .points) (a .new-points) (b .new-points);
+  triangles = b .triangles ∙ ap (λ (l : List Triangle). l ++ b .new-triangles) (a .triangles) ∙ append-assoc (s .triangles) (a .new-triangles) (b .new-triangles);
+}
 
 led-extends : (ls : List (List ℕ)) (n : ℕ) (s t : Lists) → Lead ls n s t → Extends s t
 led-extends [] n s t p = extends-none s t p
@@ -172,4 +185,3 @@ kept m limit bytes s =
     (λ h. extends-none s _ (ap (λ (r : Reading). r .held) (h .1)))
     (λ h. ⊎-elim (λ d. led-extends _ 1 s _ (d .led)) (⊎-elim (λ d. led-extends _ 1 s _ (d .led)) (λ d. led-extends _ 1 s _ (d .led))) (h .1))
     (line-by-line m limit bytes s)
-

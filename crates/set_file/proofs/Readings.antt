@@ -70,18 +70,18 @@ module _ (bytes rest : List ℕ) (n : ℕ) (before held : Lists) (line after : L
 
   pub after-line : (e : Entry) (longer : Lists) → entryAt line n held ≡ Ok e → longer ≡ with-entry e held → Sofar bytes after (n + 1) before longer
   after-line e longer h p = record {
-      pushed = so .pushed + cost e;
-      limited = λ k.
-          ap (λ j. readLines (only j) (lines bytes) 1 before) (add-assoc (so .pushed) (cost e) k)
-          ∙ so .limited (cost e + k)
-          ∙ here (only (cost e + k))
-          ∙ next-line (only (cost e + k)) (only k) line (lines after) n held e h (spend-only e k)
-          ∙ ap (readLines (only k) (lines after) (n + 1)) (sym p);
-      unlimited =
-          so .unlimited ∙ here all
-          ∙ next-line all all line (lines after) n held e h (spend-all e)
-          ∙ ap (readLines all (lines after) (n + 1)) (sym p);
-    }
+    pushed = so .pushed + cost e;
+    limited = λ k.
+        ap (λ j. readLines (only j) (lines bytes) 1 before) (add-assoc (so .pushed) (cost e) k)
+        ∙ so .limited (cost e + k)
+        ∙ here (only (cost e + k))
+        ∙ next-line (only (cost e + k)) (only k) line (lines after) n held e h (spend-only e k)
+        ∙ ap (readLines (only k) (lines after) (n + 1)) (sym p);
+    unlimited =
+        so .unlimited ∙ here all
+        ∙ next-line all all line (lines after) n held e h (spend-all e)
+        ∙ ap (readLines all (lines after) (n + 1)) (sym p);
+  }
 
   pub at-fault : (f : LineFault) → entryAt line n held ≡ Err f → readLines all (lines bytes) 1 before ≡ stopped held (Line f)
   at-fault f h = so .unlimited ∙ here all ∙ bad-line all line (lines after) n held f h
@@ -106,7 +106,7 @@ too-long limit bytes s h = reads-all limit bytes s s (Err Size) (cond-false _ _ 
 -- want of memory
 pub reads-short : (limit : ℕ) (bytes : List ℕ) (before held after : Lists) (r : Result (Unit {0}) FileFault) (n k : ℕ) → length bytes ≤ limit → readLines (only k) (lines bytes) 1 before ≡ stopped held (Line (Memory n)) → after ≡ held → r ≡ Err (Line (Memory n)) → Reads limit bytes before after r
 reads-short limit bytes before held after r n k h e a t = record {
-    memory = only k;
-    result = in-limit (only k) limit bytes before h ∙ e ∙ (λ i. record { held = sym a i; answer = sym t i });
-    whole = λ known. let lost : short r ≡ true = ap short t in let z : true ≡ false = sym lost ∙ known in let y : _≡_ {A = ℕ} 0 1 = cc in absurd (omega arith);
-  }
+  memory = only k;
+  result = in-limit (only k) limit bytes before h ∙ e ∙ (λ i. record { held = sym a i; answer = sym t i });
+  whole = λ known. let lost : short r ≡ true = ap short t in let z : true ≡ false = sym lost ∙ known in let y : _≡_ {A = ℕ} 0 1 = cc in absurd (omega arith);
+}

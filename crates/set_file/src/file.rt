@@ -19,6 +19,7 @@ use mesh::Triangle;
 
 // How long a set file may be: for the library, and for the program that outlines a set.
 pub const LIBRARY_LIMIT: usize = 1_048_576;
+
 pub const PROGRAM_LIMIT: usize = 8_192;
 
 // What is wrong with a file.
@@ -61,12 +62,20 @@ impl FileFault {
             FileFault::Line(LineFault::Full(line)) => (7, line, 0),
             FileFault::Line(LineFault::Memory(_)) => return None,
         };
-        Some(Refusal { number, at: Place { line, word } })
+        Some(Refusal {
+            number,
+            at: Place { line, word },
+        })
     }
 }
 
 // Appends the entry of line `at`.
-fn append(entry: Entry, at: usize, points: &mut Vec<Point>, triangles: &mut Vec<Triangle>) -> Result<(), LineFault>
+fn append(
+    entry: Entry,
+    at: usize,
+    points: &mut Vec<Point>,
+    triangles: &mut Vec<Triangle>,
+) -> Result<(), LineFault>
     ensures { λ r. ⌜ Appended entry at (lists (now (points .entry)) (now (triangles .entry))) (lists (now (points .exit)) (now (triangles .exit))) r ⌝ }
 {
     match entry {
@@ -84,7 +93,12 @@ fn append(entry: Entry, at: usize, points: &mut Vec<Point>, triangles: &mut Vec<
 
 // Reads a file of at most `limit` bytes, and appends its points and triangles to the lists.
 // At a fault the entries of the lines before it stay, and nothing else has changed.
-pub fn read(bytes: &[u8], limit: usize, points: &mut Vec<Point>, triangles: &mut Vec<Triangle>) -> Result<(), FileFault>
+pub fn read(
+    bytes: &[u8],
+    limit: usize,
+    points: &mut Vec<Point>,
+    triangles: &mut Vec<Triangle>,
+) -> Result<(), FileFault>
     ensures { λ r. ⌜ Reads limit (now (bytes .entry)) (lists (now (points .entry)) (now (triangles .entry))) (lists (now (points .exit)) (now (triangles .exit))) r ⌝ }
 {
     if bytes.len() > limit {

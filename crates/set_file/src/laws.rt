@@ -5,11 +5,9 @@ ghost use Rattle.set_file.specs.Examples.{Examples};
 // How a reading ends, what it keeps, and which line and word its fault names.
 pub fn reading_laws()
     ensures { λ _. ⌜ Laws ⌝ }
-{
-}
+{}
 
 // What the definitions make of small files.
 pub fn reading_examples()
     ensures { λ _. ⌜ Examples ⌝ }
-{
-}
+{}

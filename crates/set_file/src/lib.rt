@@ -1,11 +1,11 @@
 // Reads a set file: the points and triangles of a stage set, from bytes.
 // The format is written down in specs/, from words to the whole file, and in docs/SET-FILE.md.
-mod word;
-mod token;
-mod line;
 mod file;
-mod locate;
 mod laws;
+mod line;
+mod locate;
+mod token;
+mod word;
 
 pub use file::FileFault;
 pub use file::FileFaultDebug;

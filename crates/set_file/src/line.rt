@@ -73,7 +73,11 @@ pub fn next_line<'a>(bytes: &'a [u8]) -> (&'a [u8], &'a [u8])
 {
     let size = run(bytes, Class::Inline);
     let (line, after) = bytes.split_at(size);
-    if after.len() > 0 { (line, &after[1..]) } else { (line, after) }
+    if after.len() > 0 {
+        (line, &after[1..])
+    } else {
+        (line, after)
+    }
 }
 
 // The next word, of whatever kind, and what follows it.
@@ -136,7 +140,13 @@ fn face(rest: &[u8], at: usize, points: usize, triangles: usize) -> Result<Entry
 }
 
 // A line whose first word is `word`.
-fn keyed(word: &[u8], rest: &[u8], at: usize, points: usize, triangles: usize) -> Result<Entry, LineFault>
+fn keyed(
+    word: &[u8],
+    rest: &[u8],
+    at: usize,
+    points: usize,
+    triangles: usize,
+) -> Result<Entry, LineFault>
     ensures { λ r. ⌜ r ≡ keyedOf (now (word .entry)) (words (now (rest .entry))) at points triangles ⌝ }
 {
     if word.len() != 1 {
@@ -150,7 +160,12 @@ fn keyed(word: &[u8], rest: &[u8], at: usize, points: usize, triangles: usize) -
 }
 
 // The entry that line `at` adds, after `points` points and `triangles` triangles.
-pub fn read_line(line: &[u8], at: usize, points: usize, triangles: usize) -> Result<Entry, LineFault>
+pub fn read_line(
+    line: &[u8],
+    at: usize,
+    points: usize,
+    triangles: usize,
+) -> Result<Entry, LineFault>
     ensures { λ r. ⌜ r ≡ entryOf (now (line .entry)) at points triangles ⌝ }
 {
     let (first, rest) = next_word(line);

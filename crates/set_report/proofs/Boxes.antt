@@ -59,28 +59,30 @@ holds-more a b p w h = record { low = below-chain _ _ _ (w .low) (h .low); high 
 
 within-widened : (b : BoundingBox) (p : Point) → Within b (widened b p)
 within-widened b p = record {
-    low = record { x = min-left (b .low .x) (p .x); y = min-left (b .low .y) (p .y); z = min-left (b .low .z) (p .z) };
-    high = record { x = max-left (b .high .x) (p .x); y = max-left (b .high .y) (p .y); z = max-left (b .high .z) (p .z) };
-  }
+  low = record { x = min-left (b .low .x) (p .x); y = min-left (b .low .y) (p .y); z = min-left (b .low .z) (p .z) };
+  high = record { x = max-left (b .high .x) (p .x); y = max-left (b .high .y) (p .y); z = max-left (b .high .z) (p .z) };
+}
 
 widened-holds : (b : BoundingBox) (p : Point) → Holds (widened b p) p
 widened-holds b p = record {
-    low = record { x = min-right (b .low .x) (p .x); y = min-right (b .low .y) (p .y); z = min-right (b .low .z) (p .z) };
-    high = record { x = max-right (b .high .x) (p .x); y = max-right (b .high .y) (p .y); z = max-right (b .high .z) (p .z) };
-  }
+  low = record { x = min-right (b .low .x) (p .x); y = min-right (b .low .y) (p .y); z = min-right (b .low .z) (p .z) };
+  high = record { x = max-right (b .high .x) (p .x); y = max-right (b .high .y) (p .y); z = max-right (b .high .z) (p .z) };
+}
 
 -- a box that holds the old one and the new point holds the widened one
 widened-within : (b other : BoundingBox) (p : Point) → Within b other → Holds other p → Within (widened b p) other
 widened-within b other p w h = record {
-    low = record {
-      x = min-above (b .low .x) (p .x) (other .low .x) (w .low .x) (h .low .x);
-      y = min-above (b .low .y) (p .y) (other .low .y) (w .low .y) (h .low .y);
-      z = min-above (b .low .z) (p .z) (other .low .z) (w .low .z) (h .low .z) };
-    high = record {
-      x = max-below (b .high .x) (p .x) (other .high .x) (w .high .x) (h .high .x);
-      y = max-below (b .high .y) (p .y) (other .high .y) (w .high .y) (h .high .y);
-      z = max-below (b .high .z) (p .z) (other .high .z) (w .high .z) (h .high .z) };
-  }
+  low = record {
+    x = min-above (b .low .x) (p .x) (other .low .x) (w .low .x) (h .low .x);
+    y = min-above (b .low .y) (p .y) (other .low .y) (w .low .y) (h .low .y);
+    z = min-above (b .low .z) (p .z) (other .low .z) (w .low .z) (h .low .z);
+  };
+  high = record {
+    x = max-below (b .high .x) (p .x) (other .high .x) (w .high .x) (h .high .x);
+    y = max-below (b .high .y) (p .y) (other .high .y) (w .high .y) (h .high .y);
+    z = max-below (b .high .z) (p .z) (other .high .z) (w .high .z) (h .high .z);
+  };
+}
 
 within-folded : (b : BoundingBox) (ps : List Point) → Within b (folded widened b ps)
 within-folded b [] = record { low = below-same (b .low); high = below-same (b .high) }
@@ -98,12 +100,11 @@ pub smallest : Smallest
 smallest [] b e = let z : _≡_ {A = ℕ} 0 1 = cc in absurd (omega arith)
 smallest (p ∷ ps) b e =
     let start : BoundingBox = record { low = p; high = p } in
-    let same : folded widened start (p ∷ ps) ≡ b = cc in
-    (
+    let same : folded widened start (p ∷ ps) ≡ b = cc in (
       subst (λ (x : BoundingBox). All (Holds x) (p ∷ ps)) same (folded-holds start (p ∷ ps)),
       λ other h.
-        let w : Within b other = subst (λ (x : BoundingBox). Within x other) same (folded-within start other (p ∷ ps) (record { low = h .0 .low; high = h .0 .high }) h) in
-        (w .low, w .high)
+          let w : Within b other = subst (λ (x : BoundingBox). Within x other) same (folded-within start other (p ∷ ps) (record { low = h .0 .low; high = h .0 .high }) h) in
+          (w .low, w .high),
     )
 
 abbrev pub origin : Point

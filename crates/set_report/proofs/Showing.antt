@@ -19,9 +19,9 @@ shown-more s t u bs i h p q =
     q ∙ ap (λ (l : List ℕ). l ++ shownByte (getD bs i 0)) p
     ∙ append-assoc s (shownBytes (take i bs)) (shownByte (getD bs i 0))
     ∙ ap (λ (l : List ℕ). s ++ l)
-      (ap (λ (l : List ℕ). shownBytes (take i bs) ++ l) (sym (append-nil (shownByte (getD bs i 0))))
-      ∙ sym (shown-append (take i bs) (getD bs i 0 ∷ []))
-      ∙ ap shownBytes (sym (take-more bs i 0 h)))
+    (ap (λ (l : List ℕ). shownBytes (take i bs) ++ l) (sym (append-nil (shownByte (getD bs i 0))))
+    ∙ sym (shown-append (take i bs) (getD bs i 0 ∷ []))
+    ∙ ap shownBytes (sym (take-more bs i 0 h)))
 
 -- four bytes more, one by one
 pub four-more : (s a b c d : List ℕ) (w x y z : ℕ) → a ≡ s ++ w ∷ [] → b ≡ a ++ x ∷ [] → c ≡ b ++ y ∷ [] → d ≡ c ++ z ∷ [] → d ≡ s ++ w ∷ x ∷ y ∷ z ∷ []

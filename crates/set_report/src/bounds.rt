@@ -16,20 +16,31 @@ pub struct BoundingBox {
 fn lower(a: Point, b: Point) -> Point
     ensures { λ r. ⌜ r ≡ lowest a b ⌝ }
 {
-    Point { x: a.x.min(b.x), y: a.y.min(b.y), z: a.z.min(b.z) }
+    Point {
+        x: a.x.min(b.x),
+        y: a.y.min(b.y),
+        z: a.z.min(b.z),
+    }
 }
 
 // The higher of each coordinate.
 fn higher(a: Point, b: Point) -> Point
     ensures { λ r. ⌜ r ≡ highest a b ⌝ }
 {
-    Point { x: a.x.max(b.x), y: a.y.max(b.y), z: a.z.max(b.z) }
+    Point {
+        x: a.x.max(b.x),
+        y: a.y.max(b.y),
+        z: a.z.max(b.z),
+    }
 }
 
 fn widen(bounds: BoundingBox, p: Point) -> BoundingBox
     ensures { λ r. ⌜ r ≡ widened bounds p ⌝ }
 {
-    BoundingBox { low: lower(bounds.low, p), high: higher(bounds.high, p) }
+    BoundingBox {
+        low: lower(bounds.low, p),
+        high: higher(bounds.high, p),
+    }
 }
 
 // The smallest box that holds all the points; none where there is no point.
@@ -40,7 +51,10 @@ pub fn bounding_box(points: &[Point]) -> Option<BoundingBox>
         return None;
     }
     let first = points[0];
-    let mut bounds = BoundingBox { low: first, high: first };
+    let mut bounds = BoundingBox {
+        low: first,
+        high: first,
+    };
     for &p in points {
         bounds = widen(bounds, p);
     }
@@ -50,5 +64,4 @@ pub fn bounding_box(points: &[Point]) -> Option<BoundingBox>
 // The box holds every point, and every box that does so holds it.
 pub fn bounds_law()
     ensures { λ _. ⌜ Smallest ⌝ }
-{
-}
+{}

@@ -27,5 +27,10 @@ pub fn report_on(heap: Global, bytes: &[u8]) -> Report
     let mut points = Vec::new(heap);
     let mut triangles = Vec::new(heap);
     let fault = set_file::read(bytes, LIBRARY_LIMIT, &mut points, &mut triangles).err();
-    Report { points: points.len(), triangles: triangles.len(), bounds: bounding_box(points.as_slice()), fault }
+    Report {
+        points: points.len(),
+        triangles: triangles.len(),
+        bounds: bounding_box(points.as_slice()),
+        fault,
+    }
 }

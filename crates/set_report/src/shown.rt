@@ -16,7 +16,11 @@ fn hex_digit(n: u8) -> char
     ensures value { λ r. ⌜ r ≡ hexDigit n ⌝ }
     ensures ascii { λ r. ⌜ r < 128 ⌝ }
 {
-    if n < 10 { char::from(b'0' + n) } else { char::from(b'a' + (n - 10)) }
+    if n < 10 {
+        char::from(b'0' + n)
+    } else {
+        char::from(b'a' + (n - 10))
+    }
 }
 
 fn push_ascii(text: &mut String, c: char) -> Result<(), AllocError>

@@ -52,7 +52,8 @@ fn word_question(fault: WordFault) -> &'static str
 {
     match fault {
         WordFault::Form(_) => "is the word an optional minus and one to five digits?",
-        WordFault::Range(_) => "is it a coordinate from -10000 to 10000, or the number of an earlier point?",
+        WordFault::Range(_) =>
+            "is it a coordinate from -10000 to 10000, or the number of an earlier point?",
     }
 }
 
@@ -82,7 +83,11 @@ fn heading(heap: Global, refusal: Option<Refusal>) -> Result<String, AllocError>
     ensures { λ r. ⌜ made r (λ t. string-bytes t ≡ headingText refusal) ⌝ }
 {
     match refusal {
-        Some(refusal) => format!(heap, "refused {} line {} word {}\n", refusal.number, refusal.at.line, refusal.at.word),
+        Some(refusal) => format!(
+            heap,
+            "refused {} line {} word {}\n",
+            refusal.number, refusal.at.line, refusal.at.word
+        ),
         None => String::from_str(heap, "out of memory\n"),
     }
 }

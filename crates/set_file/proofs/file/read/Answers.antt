@@ -38,10 +38,9 @@ pub loop-rest-again : need.loop-rest-again
 loop-rest-again c =
     let d = need.at·loop-rest-again c .After-read-line in
     let s = lists (c .loop-rest .points) (c .loop-rest .triangles) in
-    let before = lists (c .args .points .now) (c .args .triangles .now) in
-    (
+    let before = lists (c .args .points .now) (c .args .triangles .now) in (
       after-line (c .args .bytes .now) (c .loop-rest .rest .now) (c .loop-rest .before + 1) before s (c .next-line .result .0 .now) (c .next-line .result .1 .now) (c .loop-rest .inv .0) (c .next-line .ensures .cut (omega arith)) (c .in-Continue-entry .entry) _ (entry d ∙ c .in-Continue-entry .was tt) (c .in-Continue-append .ensures tt),
-      omega (arith, c .next-line .ensures .shorter (omega arith))
+      omega (arith, c .next-line .ensures .shorter (omega arith)),
     )
 
 pub returns : need.returns
