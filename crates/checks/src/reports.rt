@@ -27,7 +27,7 @@ fn refused_files(rt: LibcRuntime) -> Result<(), Fail> {
     says(
         heap,
         b"v 0 0 0\nv 1 0",
-        "points: 1\ntriangles: 0\nbox: x 0 to 0, y 0 to 0, z 0 to 0\nrefused 3 line 2 word 0\nquestion: do just three words follow the first?\n",
+        "points: 1\ntriangles: 0\nbox: x 0 to 0, y 0 to 0, z 0 to 0\nrefused 3 line 2 word 0\nquestion: are there exactly three words after the first?\n",
     )
 }
 

@@ -103,7 +103,7 @@ fn lines_and_words(rt: LibcRuntime) -> Result<(), Fail> {
         bad(b"\n\nv 1 2 3\n\xff\xfe", 2, 4, 1, 1, 0),
         bad(b"v 1 2", 3, 1, 0, 0, 0),
         bad(b"v 1 2 3 4", 3, 1, 0, 0, 0),
-        bad(b"v 1 2 3 # no note here", 3, 1, 0, 0, 0),
+        bad(b"v 1 2 3 # no comment here", 3, 1, 0, 0, 0),
         bad(b"v", 3, 1, 0, 0, 0),
     ];
     for case in cases {
@@ -168,8 +168,8 @@ fn faces(rt: LibcRuntime) -> Result<(), Fail> {
     Ok(())
 }
 
-// A file of so many bytes, all of them a note.
-fn note(heap: Global, size: usize) -> Result<Vec<u8>, AllocError> {
+// A file of so many bytes, all of them a comment.
+fn comment(heap: Global, size: usize) -> Result<Vec<u8>, AllocError> {
     let mut bytes = Vec::new(heap);
     for _ in 0..size {
         bytes.push(b'#')?;
@@ -180,7 +180,7 @@ fn note(heap: Global, size: usize) -> Result<Vec<u8>, AllocError> {
 fn limit_holds(heap: Global, limit: usize) -> Result<(), Fail> {
     let mut points = Vec::new(heap);
     let mut triangles = Vec::new(heap);
-    let mut file = note(heap, limit)?;
+    let mut file = comment(heap, limit)?;
     check(read(file.as_slice(), limit, &mut points, &mut triangles).is_ok())?;
     file.push(b'#')?;
     let answer = read(file.as_slice(), limit, &mut points, &mut triangles);

@@ -1,6 +1,5 @@
 -- Laws of the numbers that words write. Assumes nothing.
-use mathlib.Core.Path.{_≡_, refl, sym, ap, _∙_}
-use mathlib.Core.Bool.{Bool, true, false, cond, _&&_}
+use mathlib.Core.Path.{_≡_, refl}
 use mathlib.Core.Logic.{_⊎_, inl, inr}
 use mathlib.Core.List.{List, [], _∷_}
 use Prim.Native.Nat.{ℕ, _+_, _-_, _*_, _^_, _≤_, _<_}
@@ -8,17 +7,12 @@ use native.Mathlib.Nat.{pow-le-pow-right}
 use native.Mathlib.Omega.{arith}
 use lib.ListN.{length, getD, drop}
 use Rattle.std.proofs.shelf.Tests.{cond-true, cond-false, le-leb, lt-leb, and-from, and-left, and-right, eq-eqb, ne-eqb}
-use Rattle.std.specs.declared.option.Option.{Option}
-use Rattle.std.specs.declared.option.Option.the-variants.{Some, None}
-use Rattle.set_file.specs.Numbers.{digit, after, unsignedOf, numberOf, plus, minus}
+use Rattle.std.specs.declared.option.Option.the-variants.{None}
+use Rattle.set_file.specs.Numbers.{after, unsignedOf, numberOf, plus, minus}
 
 pub sized : (bs : List ℕ) → 0 < length bs → length bs ≤ 5 → unsignedOf bs ≡ after 0 bs
 sized [] h k = absurd (omega arith)
 sized (b ∷ bs) h k = cond-true _ _ _ (le-leb (length bs) 4 (omega arith))
-
-pub not-sized : (bs : List ℕ) → (length bs ≡ 0) ⊎ (5 < length bs) → unsignedOf bs ≡ None
-not-sized [] h = refl
-not-sized (b ∷ bs) h = cond-false _ _ _ (lt-leb (length bs) 4 (omega arith))
 
 pub after-digit : (n b : ℕ) (bs : List ℕ) → 48 ≤ b → b ≤ 57 → after n (b ∷ bs) ≡ after (n * 10 + (b - 48)) bs
 after-digit n b bs h k = cond-true _ _ _ (and-from _ _ (le-leb _ _ h) (le-leb _ _ k))
@@ -33,7 +27,3 @@ ten-pow i h = let some : 0 < 10 = omega arith in pow-le-pow-right some h
 pub number-minus : (w : List ℕ) → getD w 0 0 ≡ 45 → numberOf w ≡ minus (unsignedOf (drop 1 w))
 number-minus [] e = absurd (omega arith)
 number-minus (b ∷ bs) e = cond-true _ _ _ (eq-eqb b 45 e)
-
-pub number-plus : (w : List ℕ) → (getD w 0 0 ≡ 45 → ⊥) → numberOf w ≡ plus (unsignedOf w)
-number-plus [] e = refl
-number-plus (b ∷ bs) e = cond-false _ _ _ (ne-eqb b 45 e)

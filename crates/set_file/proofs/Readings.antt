@@ -1,13 +1,13 @@
 -- A reading, line by line: what the lines so far have done, and what the next one does. Assumes nothing.
-use mathlib.Core.Path.{_≡_, refl, sym, ap, subst, _∙_}
-use mathlib.Core.Bool.{Bool, true, false, cond}
-use mathlib.Core.List.{List, [], _∷_}
-use Prim.Native.Nat.{ℕ, zero, suc, _+_, _-_, _≤_, _<_}
+use mathlib.Core.Path.{_≡_, refl, sym, ap, _∙_}
+use mathlib.Core.Bool.{true, false}
+use mathlib.Core.Logic.{inl, inr}
+use mathlib.Core.List.{List, _∷_}
+use Prim.Native.Nat.{ℕ, _+_, _≤_, _<_}
 use native.Mathlib.Nat.{add-assoc, zero-add}
 use native.Mathlib.Numerals.{one-add}
 use native.Mathlib.Omega.{arith}
 use lib.ListN.{length}
-use Rattle.std.specs.declared.option.Option.{Option}
 use Rattle.std.specs.declared.option.Option.the-variants.{Some, None}
 use Rattle.std.specs.declared.result.Result.{Result}
 use Rattle.std.specs.declared.result.Result.the-variants.{Ok, Err}
@@ -20,7 +20,7 @@ use Rattle.set_file.specs.declared.file.FileFault.{FileFault}
 use Rattle.set_file.specs.declared.file.FileFault.the-variants.{Size, Line}
 use Rattle.set_file.specs.Parts.{lines}
 use Rattle.set_file.proofs.Cuts.{no-lines}
-use Rattle.set_file.specs.Files.{Lists, Reading, Memory-for, all, only, stopped, with-entry, one-less, spend, orShort, enter, entryAt, readLines, reading, Reads, short}
+use Rattle.set_file.specs.Files.{Lists, Memory-for, all, only, stopped, with-entry, one-less, spend, orShort, enter, entryAt, readLines, reading, Reads, Outgrown, short}
 
 -- how many pushes an entry takes
 abbrev pub cost : Entry → ℕ
@@ -61,9 +61,6 @@ pub record Sofar (bytes rest : List ℕ) (n : ℕ) (before held : Lists) : Type 
   pub limited : (k : ℕ) → readLines (only (pushed + k)) (lines bytes) 1 before ≡ readLines (only k) (lines rest) n held
   pub unlimited : readLines all (lines bytes) 1 before ≡ readLines all (lines rest) n held
 
-pub at-start : (bytes : List ℕ) (s : Lists) → Sofar bytes bytes (0 + 1) s s
-at-start bytes s = record { pushed = 0; limited = λ k. ap (λ n. readLines (only n) (lines bytes) 1 s) (zero-add k); unlimited = refl }
-
 module _ (bytes rest : List ℕ) (n : ℕ) (before held : Lists) (line after : List ℕ) (so : Sofar bytes rest n before held) (cut : lines rest ≡ line ∷ lines after) where
   here : (m : Memory-for) → readLines m (lines rest) n held ≡ readLines m (line ∷ lines after) n held
   here m = ap (λ ls. readLines m ls n held) cut
@@ -100,8 +97,9 @@ in-limit m limit bytes s h = cond-true _ _ _ (le-leb (length bytes) limit h)
 pub reads-all : (limit : ℕ) (bytes : List ℕ) (before after : Lists) (r : Result (Unit {0}) FileFault) → reading all limit bytes before ≡ record { held = after; answer = r } → Reads limit bytes before after r
 reads-all limit bytes before after r e = record { memory = all; result = e; whole = λ _. e }
 
-pub too-long : (limit : ℕ) (bytes : List ℕ) (s : Lists) → limit < length bytes → Reads limit bytes s s (Err Size)
-too-long limit bytes s h = reads-all limit bytes s s (Err Size) (cond-false _ _ _ (lt-leb (length bytes) limit h))
+-- a fault of a line
+pub reads-fault : (limit : ℕ) (bytes : List ℕ) (before held : Lists) (r : Result (Unit {0}) FileFault) (f : FileFault) → length bytes ≤ limit → readLines all (lines bytes) 1 before ≡ stopped held f → r ≡ Err f → Reads limit bytes before held r
+reads-fault limit bytes before held r f h e t = reads-all limit bytes before held r (in-limit all limit bytes before h ∙ e ∙ ap (λ (a : Result (Unit {0}) FileFault). record { held = held; answer = a }) (sym t))
 
 -- want of memory
 pub reads-short : (limit : ℕ) (bytes : List ℕ) (before held after : Lists) (r : Result (Unit {0}) FileFault) (n k : ℕ) → length bytes ≤ limit → readLines (only k) (lines bytes) 1 before ≡ stopped held (Line (Memory n)) → after ≡ held → r ≡ Err (Line (Memory n)) → Reads limit bytes before after r
@@ -110,3 +108,8 @@ reads-short limit bytes before held after r n k h e a t = record {
   result = in-limit (only k) limit bytes before h ∙ e ∙ (λ i. record { held = sym a i; answer = sym t i });
   whole = λ known. let lost : short r ≡ true = ap short t in let z : true ≡ false = sym lost ∙ known in let y : _≡_ {A = ℕ} 0 1 = cc in absurd (omega arith);
 }
+
+-- a list whose memory was outgrown then had no more in the beginning
+pub outgrown-before : (p q t u : ℕ) (s held : Lists) → p ≤ q → t ≤ u → held ≡ s → Outgrown q u s → Outgrown p t held
+outgrown-before p q t u s held h k e (inl x) = inl (omega (arith, ap (λ (l : Lists). length (l .points)) e))
+outgrown-before p q t u s held h k e (inr x) = inr (omega (arith, ap (λ (l : Lists). length (l .triangles)) e))

@@ -1,8 +1,9 @@
 -- What the caller's lists hold after a file was read, and the answer. Assumes nothing.
 use mathlib.Core.Path.{_≡_}
-use mathlib.Core.Bool.{Bool, true, false, cond, not}
+use mathlib.Core.Bool.{Bool, false, cond, not}
+use mathlib.Core.Logic.{_⊎_}
 use mathlib.Core.List.{List, [], _∷_, _++_}
-use Prim.Native.Nat.{ℕ, zero, suc, _+_}
+use Prim.Native.Nat.{ℕ, zero, suc, _+_, _≤_}
 use lib.Dec.{leb}
 use lib.ListN.{length}
 use Rattle.std.specs.Of.Vec.{vec-items}
@@ -68,7 +69,7 @@ abbrev pub orShort : Option Memory-for → ℕ → Lists → (Memory-for → Rea
 orShort None n s go = stopped s (Line (Memory n))
 orShort (Some m) n s go = go m
 
--- line n's entry is appended; its fault is carried whole inside the file's, and the lists stay
+-- line n's entry is appended; its fault becomes the file's, and the lists stay
 abbrev pub enter : Result Entry LineFault → Memory-for → ℕ → Lists → (Lists → Memory-for → Reading) → Reading
 enter (Ok e) m n s go = orShort (spend e m) n s (go (with-entry e s))
 enter (Err f) m n s go = stopped s (Line f)
@@ -97,6 +98,10 @@ pub record Reads (limit : ℕ) (bytes : List ℕ) (before after : Lists) (r : Re
   pub memory : Memory-for
   pub result : reading memory limit bytes before ≡ record { held = after; answer = r }
   pub whole : short r ≡ false → reading all limit bytes before ≡ record { held = after; answer = r }
+
+-- a list has outgrown the memory that it had
+abbrev pub Outgrown : ℕ → ℕ → Lists → Type 0
+Outgrown for-points for-triangles s = (for-points ≤ length (s .points)) ⊎ (for-triangles ≤ length (s .triangles))
 
 -- an entry of line n is appended, or it found no memory and the lists are as before
 abbrev pub Appended : Entry → ℕ → Lists → Lists → Result (Unit {0}) LineFault → Type 0

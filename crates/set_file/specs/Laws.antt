@@ -1,9 +1,10 @@
 -- What the reading of a file means, in terms of its lines and words. Assumes nothing.
 use mathlib.Core.Path.{_≡_}
-use mathlib.Core.Bool.{true, false}
+use mathlib.Core.Bool.{false}
 use mathlib.Core.Logic.{_⊎_}
 use mathlib.Core.List.{List, [], _∷_, _++_}
 use Prim.Native.Nat.{ℕ, _+_, _≤_, _<_}
+use lib.Chars.{codes}
 use lib.IntN.{ℤ}
 use lib.ListN.{length}
 use Rattle.std.specs.declared.option.Option.the-variants.{Some, None}
@@ -17,10 +18,12 @@ use Rattle.set_file.specs.declared.line.LineFault.{LineFault}
 use Rattle.set_file.specs.declared.line.LineFault.the-variants.{First, Count, Word, Same, Full, Memory}
 use Rattle.set_file.specs.declared.file.FileFault.the-variants.{Size, Line}
 use Rattle.set_file.specs.Parts.{lines, words}
+use Rattle.set_file.specs.declared.file.Refusal.{Refusal}
+use Rattle.set_file.specs.Refusals.{refusalOf}
 use Rattle.set_file.specs.Numbers.{numberOf, inLimits, earlier}
 use Rattle.set_file.specs.Lines.{entryOf}
 use Rattle.set_file.specs.Places.{numbered}
-use Rattle.set_file.specs.Files.{Lists, Reading, Memory-for, all, only, spend, with-entry, entryAt, stopped, readLines, reading}
+use Rattle.set_file.specs.Files.{Lists, Reading, Memory-for, all, only, spend, with-entry, entryAt, stopped, reading}
 
 -- some lines, of which the first is line n, are good, and their entries lead from the lists s to t
 abbrev pub Lead : List (List ℕ) → ℕ → Lists → Lists → Type 0
@@ -83,22 +86,35 @@ pub record Stands (line : List ℕ) (n : ℕ) (at : Place) (word : List ℕ) : T
   pub on-line : at .line ≡ n
   pub in-line : numbered (words line) (at .word) ≡ Some word
 
--- a fault of line n names that line and, where it is a word's, a word of it that writes no number,
--- or one that is neither a coordinate nor the number of an earlier point; none is want of memory
-abbrev pub Names : List ℕ → ℕ → ℕ → LineFault → Type 0
-Names line n points (First k) = k ≡ n
-Names line n points (Count k) = k ≡ n
-Names line n points (Word (Form at)) = (w : List ℕ) × Stands line n at w × (numberOf w ≡ None)
-Names line n points (Word (Range at)) = (w : List ℕ) × Stands line n at w × (v : ℤ) × (numberOf w ≡ Some v) × ((inLimits v ≡ false) ⊎ (earlier points v ≡ false))
-Names line n points (Same k) = k ≡ n
-Names line n points (Full k) = k ≡ n
-Names line n points (Memory k) = ⊥
+-- the first word of a line
+abbrev pub Begins : List ℕ → List ℕ → Type 0
+Begins line key = numbered (words line) 1 ≡ Some key
 
-abbrev pub Faults-name : Type 0
-Faults-name = (line : List ℕ) (n points triangles : ℕ) (f : LineFault) → entryOf line n points triangles ≡ Err f → Names line n points f
+-- a value that is no coordinate, or no number of an earlier point, as the line's first word asks
+abbrev pub Out-of-range : List ℕ → ℕ → ℤ → Type 0
+Out-of-range line points v = (Begins line (codes "v") × (inLimits v ≡ false)) ⊎ (Begins line (codes "f") × (earlier points v ≡ false))
+
+-- what a fault of line n says of it; none is want of memory
+abbrev pub Says : List ℕ → ℕ → ℕ → ℕ → LineFault → Type 0
+Says line n points triangles (First k) = (k ≡ n) × (key : List ℕ) × Begins line key × (key ≡ codes "v" → ⊥) × (key ≡ codes "f" → ⊥)
+Says line n points triangles (Count k) = (k ≡ n) × (length (words line) ≡ 4 → ⊥)
+Says line n points triangles (Word (Form at)) = (w : List ℕ) × Stands line n at w × (numberOf w ≡ None)
+Says line n points triangles (Word (Range at)) = (w : List ℕ) × Stands line n at w × (v : ℤ) × (numberOf w ≡ Some v) × Out-of-range line points v
+Says line n points triangles (Same k) = k ≡ n
+Says line n points triangles (Full k) = (k ≡ n) × ((65536 ≤ points) ⊎ (65536 ≤ triangles))
+Says line n points triangles (Memory k) = ⊥
+
+-- what it says is so
+abbrev pub True-faults : Type 0
+True-faults = (line : List ℕ) (n points triangles : ℕ) (f : LineFault) → entryOf line n points triangles ≡ Err f → Says line n points triangles f
+
+-- it has a number, and tells the line
+abbrev pub Told-faults : Type 0
+Told-faults = (line : List ℕ) (n points triangles : ℕ) (f : LineFault) → entryOf line n points triangles ≡ Err f → (r : Refusal) × (refusalOf (Line f) ≡ Some r) × (r .at .line ≡ n)
 
 pub record Laws : Type 0 where
   pub line-by-line : Line-by-line
   pub good-files : Good-files
   pub kept : Kept
-  pub faults-name : Faults-name
+  pub true-faults : True-faults
+  pub told-faults : Told-faults

@@ -17,7 +17,7 @@ use Rattle.set_file.specs.declared.line.LineFault.{LineFault}
 use Rattle.set_file.specs.declared.line.LineFault.the-variants.{First, Count, Word, Same, Full}
 use Rattle.set_file.specs.Parts.{words}
 use Rattle.set_file.specs.Numbers.{coordinateOf, cornerOf}
-use Rattle.set_file.specs.Tokens.{isNote}
+use Rattle.set_file.specs.Tokens.{isComment}
 
 -- three words
 pub record Trio : Type 0 where
@@ -30,7 +30,7 @@ abbrev pub trio : Option Three → Option Trio
 trio None = None
 trio (Some t) = Some (record { a = t .a .now; b = t .b .now; c = t .c .now })
 
--- just three words
+-- exactly three words
 abbrev pub threeOf : List (List ℕ) → Option Trio
 threeOf [] = None
 threeOf (x ∷ []) = None
@@ -38,7 +38,7 @@ threeOf (x ∷ y ∷ []) = None
 threeOf (x ∷ y ∷ z ∷ []) = Some (record { a = x; b = y; c = z })
 threeOf (x ∷ y ∷ z ∷ w ∷ ws) = None
 
--- a word's fault is carried whole inside the line's
+-- a word's fault becomes the line's, with nothing of it lost
 abbrev pub andThen : {T U : Type 0} → Result T WordFault → (T → Result U LineFault) → Result U LineFault
 andThen (Ok x) f = f x
 andThen (Err e) f = Err (Word e)
@@ -79,10 +79,10 @@ byKey k ws n points triangles = cond (eqb k 118) (vertexOf ws n points) (cond (e
 abbrev pub keyedOf : List ℕ → List (List ℕ) → ℕ → ℕ → ℕ → Result Entry LineFault
 keyedOf w ws n points triangles = cond (eqb (length w) 1) (byKey (getD w 0 0) ws n points triangles) (Err (First n))
 
--- a line by its words: without words, or with a note first, it is passed over
+-- a line by its words: without words, or with a comment first, it is passed over
 abbrev pub byWords : List (List ℕ) → ℕ → ℕ → ℕ → Result Entry LineFault
 byWords [] n points triangles = Ok Nothing
-byWords (w ∷ ws) n points triangles = cond (isNote w) (Ok Nothing) (keyedOf w ws n points triangles)
+byWords (w ∷ ws) n points triangles = cond (isComment w) (Ok Nothing) (keyedOf w ws n points triangles)
 
 -- the line n, after so many points and triangles
 abbrev pub entryOf : List ℕ → ℕ → ℕ → ℕ → Result Entry LineFault

@@ -1,5 +1,5 @@
 -- The number that a word writes, and which numbers are in range. Assumes nothing.
-use mathlib.Core.Bool.{Bool, true, false, cond, _&&_}
+use mathlib.Core.Bool.{Bool, cond, _&&_}
 use mathlib.Core.List.{List, [], _∷_}
 use Prim.Native.Nat.{ℕ, _+_, _-_, _*_}
 use lib.Dec.{leb, eqb}
@@ -36,7 +36,7 @@ abbrev pub minus : Option ℕ → Option ℤ
 minus None = None
 minus (Some n) = Some (negℤ (pos n))
 
--- an optional minus (45) and one to five digits
+-- one to five digits, with or without a minus (45)
 abbrev pub numberOf : List ℕ → Option ℤ
 numberOf [] = None
 numberOf (b ∷ bs) = cond (eqb b 45) (minus (unsignedOf bs)) (plus (unsignedOf (b ∷ bs)))

@@ -1,8 +1,11 @@
 // A whole set file, into the caller's lists.
 ghost use mathlib.Core.Path.{_≡_};
+ghost use mathlib.Core.Bool.{true};
 ghost use Prim.Native.Nat.{ℕ, _≤_};
+ghost use Rattle.std.specs.Of.Vec.{vec-cap};
+ghost use Rattle.std.specs.Results.{Cases as ByOk};
 ghost use Rattle.set_file.specs.declared.file.FileFault.the-variants.{Line};
-ghost use Rattle.set_file.specs.Files.{lists, Appended, Reads};
+ghost use Rattle.set_file.specs.Files.{lists, short, Appended, Outgrown, Reads};
 ghost use Rattle.set_file.specs.Refusals.{refusalOf};
 use crate::line::Entry;
 use crate::line::LineFault;
@@ -76,7 +79,10 @@ fn append(
     points: &mut Vec<Point>,
     triangles: &mut Vec<Triangle>,
 ) -> Result<(), LineFault>
-    ensures { λ r. ⌜ Appended entry at (lists (now (points .entry)) (now (triangles .entry))) (lists (now (points .exit)) (now (triangles .exit))) r ⌝ }
+    ensures stored { λ r. ⌜ Appended entry at (lists (now (points .entry)) (now (triangles .entry))) (lists (now (points .exit)) (now (triangles .exit))) r ⌝ }
+    ensures points_room { λ _. ⌜ vec-cap (now (points .entry)) ≤ vec-cap (now (points .exit)) ⌝ }
+    ensures triangles_room { λ _. ⌜ vec-cap (now (triangles .entry)) ≤ vec-cap (now (triangles .exit)) ⌝ }
+    ensures outgrown { λ r. ⌜ ByOk r (λ _. Unit {0}) (λ _. Outgrown (vec-cap (now (points .entry))) (vec-cap (now (triangles .entry))) (lists (now (points .entry)) (now (triangles .entry)))) ⌝ }
 {
     match entry {
         Entry::Nothing => Ok(()),
@@ -93,13 +99,15 @@ fn append(
 
 // Reads a file of at most `limit` bytes, and appends its points and triangles to the lists.
 // At a fault the entries of the lines before it stay, and nothing else has changed.
+// Lists that were given enough memory beforehand never want any.
 pub fn read(
     bytes: &[u8],
     limit: usize,
     points: &mut Vec<Point>,
     triangles: &mut Vec<Triangle>,
 ) -> Result<(), FileFault>
-    ensures { λ r. ⌜ Reads limit (now (bytes .entry)) (lists (now (points .entry)) (now (triangles .entry))) (lists (now (points .exit)) (now (triangles .exit))) r ⌝ }
+    ensures reads { λ r. ⌜ Reads limit (now (bytes .entry)) (lists (now (points .entry)) (now (triangles .entry))) (lists (now (points .exit)) (now (triangles .exit))) r ⌝ }
+    ensures outgrown { λ r. ⌜ (short r ≡ true → Outgrown (vec-cap (now (points .entry))) (vec-cap (now (triangles .entry))) (lists (now (points .exit)) (now (triangles .exit)))) ⌝ }
 {
     if bytes.len() > limit {
         return Err(FileFault::Size);

@@ -38,13 +38,13 @@ pub enum Entry {
 pub enum LineFault {
     // The first word is neither `v` nor `f`.
     First(usize),
-    // Not just three words follow.
+    // It has not exactly three words after the first.
     Count(usize),
     // One of the three words is wrong.
     Word(WordFault),
     // Two corners are the same point.
     Same(usize),
-    // The list has its 65,536 entries.
+    // The list has 65,536 entries or more.
     Full(usize),
     // The list found no memory for one more.
     Memory(usize),
@@ -86,7 +86,7 @@ pub fn any_word<'a>(rest: &'a [u8]) -> Option<(&'a [u8], &'a [u8])>
 {
     match next_word(rest) {
         (Token::End, _) => None,
-        (Token::Note(w), after) => Some((w, after)),
+        (Token::Comment(w), after) => Some((w, after)),
         (Token::Word(w), after) => Some((w, after)),
     }
 }
@@ -171,7 +171,7 @@ pub fn read_line(
     let (first, rest) = next_word(line);
     match first {
         Token::End => Ok(Entry::Nothing),
-        Token::Note(_) => Ok(Entry::Nothing),
+        Token::Comment(_) => Ok(Entry::Nothing),
         Token::Word(word) => keyed(word, rest, at, points, triangles),
     }
 }

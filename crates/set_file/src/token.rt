@@ -11,7 +11,7 @@ pub enum Token<'a> {
     // No word is left.
     End,
     // A word that begins with `#`.
-    Note(&'a [u8]),
+    Comment(&'a [u8]),
     // Any other word.
     Word(&'a [u8]),
 }
@@ -62,7 +62,7 @@ pub fn next_word<'a>(line: &'a [u8]) -> (Token<'a>, &'a [u8])
     if size == 0 {
         (Token::End, rest)
     } else if word[0] == b'#' {
-        (Token::Note(word), rest)
+        (Token::Comment(word), rest)
     } else {
         (Token::Word(word), rest)
     }

@@ -1,6 +1,6 @@
 // A word that stands for a number.
 ghost use mathlib.Core.Path.{_≡_};
-ghost use Prim.Native.Nat.{ℕ, _≤_, _<_};
+ghost use Prim.Native.Nat.{ℕ, _<_};
 ghost use lib.IntN.{pos, negsuc};
 ghost use lib.Signed.{_≤ℤ_};
 ghost use Rattle.std.specs.Options.{Cases as BySome};
@@ -17,7 +17,7 @@ pub struct Place {
 // What is wrong with a word that should be a number.
 #[derive(Clone, Copy, Debug, PartialEq, Eq)]
 pub enum WordFault {
-    // It is not an optional minus and one to five digits.
+    // It is no number of one to five digits, with or without a minus.
     Form(Place),
     // It is no coordinate within the limits, or no number of an earlier point.
     Range(Place),
@@ -41,7 +41,7 @@ fn digits(ds: &[u8]) -> Option<u32>
     Some(n)
 }
 
-// The number that an optional minus and one to five digits write.
+// The number that digits write, with or without a minus.
 fn number(word: &[u8]) -> Option<i32>
     ensures value { λ r. ⌜ r ≡ numberOf (now (word .entry)) ⌝ }
     ensures small { λ r. ⌜ BySome r (Unit {0}) (λ v. (negsuc 99998 ≤ℤ v) × (v ≤ℤ pos 99999)) ⌝ }

@@ -1,5 +1,5 @@
 -- The box of some points is the smallest that holds them. Assumes nothing.
-use mathlib.Core.Path.{_≡_, refl, sym, ap, subst, _∙_}
+use mathlib.Core.Path.{_≡_, ap, subst, _∙_}
 use mathlib.Core.List.{List, [], _∷_}
 use Prim.Native.Nat.{ℕ, _≤_, _<_}
 use native.Mathlib.Omega.{arith}
@@ -10,11 +10,10 @@ use Rattle.std.specs.Numbers.{minZ, maxZ}
 use Rattle.std.specs.shelf.Lists.{folded, All}
 use Rattle.std.proofs.shelf.Lists.{take-all}
 use Rattle.std.proofs.shelf.Signed.{ints}
-use Rattle.std.specs.declared.option.Option.{Option}
-use Rattle.std.specs.declared.option.Option.the-variants.{Some, None}
+use Rattle.std.specs.declared.option.Option.the-variants.{Some}
 use Rattle.mesh.specs.declared.Point.{Point}
 use Rattle.set_report.specs.declared.bounds.BoundingBox.{BoundingBox}
-use Rattle.set_report.specs.Bounds.{lowest, highest, widened, boundsOf, Below, Holds, Smallest}
+use Rattle.set_report.specs.Bounds.{widened, boundsOf, Below, Holds, Smallest}
 
 min-left : (a b : ℤ) → minZ a b ≤ℤ a
 min-left a b = grind (arith, ints)

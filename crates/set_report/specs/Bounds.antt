@@ -1,7 +1,6 @@
 -- The smallest box that holds some points. Assumes nothing.
 use mathlib.Core.Path.{_≡_}
 use mathlib.Core.List.{List, [], _∷_}
-use Prim.Native.Nat.{ℕ}
 use lib.Signed.{_≤ℤ_}
 use Rattle.std.specs.Numbers.{minZ, maxZ}
 use Rattle.std.specs.shelf.Lists.{folded, All}

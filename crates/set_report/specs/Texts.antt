@@ -37,15 +37,15 @@ boundsText None = codes "box: none\n"
 boundsText (Some b) = sidesText b
 
 abbrev pub wordQuestion : WordFault → List ℕ
-wordQuestion (Form at) = codes "is the word an optional minus and one to five digits?"
-wordQuestion (Range at) = codes "is it a coordinate from -10000 to 10000, or the number of an earlier point?"
+wordQuestion (Form at) = codes "is the word a number of one to five digits, with or without a minus?"
+wordQuestion (Range at) = codes "is the number in range: from -10000 to 10000 after `v`, a point that came before after `f`?"
 
 abbrev pub lineQuestion : LineFault → List ℕ
 lineQuestion (First n) = codes "is the first word `v` or `f`?"
-lineQuestion (Count n) = codes "do just three words follow the first?"
+lineQuestion (Count n) = codes "are there exactly three words after the first?"
 lineQuestion (Word f) = wordQuestion f
-lineQuestion (Same n) = codes "are the three points different?"
-lineQuestion (Full n) = codes "has the list a place, below 65536 entries?"
+lineQuestion (Same n) = codes "do the corners name three different points?"
+lineQuestion (Full n) = codes "does the list hold fewer than 65536 entries?"
 lineQuestion (Memory n) = codes "is there memory for one more entry?"
 
 abbrev pub fileQuestion : FileFault → List ℕ

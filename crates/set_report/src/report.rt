@@ -1,5 +1,4 @@
 // What there is to say about a set file.
-ghost use mathlib.Core.Path.{_≡_};
 ghost use Rattle.set_report.specs.Reports.{Reports};
 use crate::bounds::BoundingBox;
 use crate::bounds::BoundingBoxDebug;

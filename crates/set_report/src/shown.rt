@@ -9,7 +9,7 @@ use std::alloc::AllocError;
 use std::alloc::Global;
 
 // How many bytes of a word are shown.
-const MOST: usize = 40;
+const SHOWN_BYTES: usize = 40;
 
 fn hex_digit(n: u8) -> char
     requires { ⌜ n < 16 ⌝ }
@@ -67,11 +67,11 @@ pub fn shown_word(heap: Global, word: &[u8]) -> Result<String, AllocError>
     ensures { λ r. ⌜ made r (λ t. string-bytes t ≡ shownOf (now (word .entry))) ⌝ }
 {
     let mut text = String::new(heap);
-    if word.len() <= MOST {
+    if word.len() <= SHOWN_BYTES {
         push_bytes(&mut text, word)?;
         return Ok(text);
     }
-    push_bytes(&mut text, &word[0..MOST])?;
+    push_bytes(&mut text, &word[0..SHOWN_BYTES])?;
     text.push_str("...")?;
     Ok(text)
 }

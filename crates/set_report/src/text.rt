@@ -51,9 +51,10 @@ fn word_question(fault: WordFault) -> &'static str
     ensures { λ r. ⌜ now r ≡ wordQuestion fault ⌝ }
 {
     match fault {
-        WordFault::Form(_) => "is the word an optional minus and one to five digits?",
+        WordFault::Form(_) =>
+            "is the word a number of one to five digits, with or without a minus?",
         WordFault::Range(_) =>
-            "is it a coordinate from -10000 to 10000, or the number of an earlier point?",
+            "is the number in range: from -10000 to 10000 after `v`, a point that came before after `f`?",
     }
 }
 
@@ -62,10 +63,10 @@ fn line_question(fault: LineFault) -> &'static str
 {
     match fault {
         LineFault::First(_) => "is the first word `v` or `f`?",
-        LineFault::Count(_) => "do just three words follow the first?",
+        LineFault::Count(_) => "are there exactly three words after the first?",
         LineFault::Word(fault) => word_question(fault),
-        LineFault::Same(_) => "are the three points different?",
-        LineFault::Full(_) => "has the list a place, below 65536 entries?",
+        LineFault::Same(_) => "do the corners name three different points?",
+        LineFault::Full(_) => "does the list hold fewer than 65536 entries?",
         LineFault::Memory(_) => "is there memory for one more entry?",
     }
 }

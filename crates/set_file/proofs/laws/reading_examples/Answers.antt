@@ -5,7 +5,7 @@ pub returns : need.returns
 returns c = record {
   square = refl;
   nothing = refl;
-  notes = refl;
+  comments = refl;
   size = refl;
   first = refl;
   two-words = refl;
@@ -19,6 +19,14 @@ returns c = record {
   no-point = refl;
   same = refl;
   same-told = refl;
+  full-points = refl;
+  full-triangles = refl;
+  other-full = refl;
+  full-told = refl;
+  first-before-count = refl;
+  count-before-form = refl;
+  range-before-next-form = refl;
+  same-before-full = refl;
   short = refl;
   named = refl;
 }

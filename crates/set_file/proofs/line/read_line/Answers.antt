@@ -1,4 +1,4 @@
-use mathlib.Core.Path.{_≡_, sym, ap, _∙_}
+use mathlib.Core.Path.{sym, ap, _∙_}
 use Rattle.set_file.specs.Parts.{words}
 use Rattle.set_file.specs.Tokens.{seen}
 use Rattle.set_file.proofs.Firsts.{plain-line}

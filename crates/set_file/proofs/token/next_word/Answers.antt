@@ -1,12 +1,12 @@
-use mathlib.Core.Path.{_≡_, refl, sym, ap, _∙_}
-use mathlib.Core.List.{List, [], _∷_}
-use Prim.Native.Nat.{ℕ, _<_}
+use mathlib.Core.Path.{_≡_, sym, ap, _∙_}
+use mathlib.Core.List.{[], _∷_}
+use Prim.Native.Nat.{_<_}
 use native.Mathlib.Omega.{arith}
-use lib.ListN.{length, take, drop, getD}
+use lib.ListN.{take, drop, getD}
 use Rattle.std.proofs.shelf.Tests.{cond-true, cond-false, eq-eqb, ne-eqb}
-use Rattle.set_file.specs.Parts.{words, blank, tail, span}
-use Rattle.set_file.specs.Tokens.{firstOf, note, plain}
-use Rattle.set_file.proofs.Cuts.{except, no-word, some-word}
+use Rattle.set_file.specs.Parts.{words, tail}
+use Rattle.set_file.specs.Tokens.{firstOf, comment, plain}
+use Rattle.set_file.proofs.Cuts.{no-word, some-word}
 use Rattle.set_file.proofs.token.next_word.Needs as need
 use Rattle.set_file.proofs.token.next_word.Needs.{After-split-at-2}
 
@@ -33,10 +33,10 @@ pub returns-then-word-eq35 : need.returns-then-word-eq35
 returns-then-word-eq35 c =
     let n = some (need.at·returns-then-word-eq35 c .After-split-at-2) (omega arith) in
     let w = c .split-at-2 .result .0 .now in
-    record { token = sym (ap firstOf n ∙ cond-true _ (note w) (plain w) (eq-eqb (getD w 0 0) 35 (omega arith))); rest = ap tail (sym n) }
+    record { token = sym (ap firstOf n ∙ cond-true _ (comment w) (plain w) (eq-eqb (getD w 0 0) 35 (omega arith))); rest = ap tail (sym n) }
 
 pub returns-else-word-eq35 : need.returns-else-word-eq35
 returns-else-word-eq35 c =
     let n = some (need.at·returns-else-word-eq35 c .After-split-at-2) (omega arith) in
     let w = c .split-at-2 .result .0 .now in
-    record { token = sym (ap firstOf n ∙ cond-false _ (note w) (plain w) (ne-eqb (getD w 0 0) 35 (omega arith))); rest = ap tail (sym n) }
+    record { token = sym (ap firstOf n ∙ cond-false _ (comment w) (plain w) (ne-eqb (getD w 0 0) 35 (omega arith))); rest = ap tail (sym n) }

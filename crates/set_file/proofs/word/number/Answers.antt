@@ -1,16 +1,14 @@
-use mathlib.Core.Path.{_≡_, refl, sym, ap, _∙_}
-use Prim.Native.Nat.{ℕ, _+_, _-_, _*_, _^_, _≤_, _<_}
+use mathlib.Core.Path.{_≡_, sym, ap, _∙_}
+use Prim.Native.Nat.{_<_}
 use native.Mathlib.Omega.{arith}
-use borrow.Author.Needs.{needs}
-use lib.ListN.{length, drop, getD}
 use lib.IntN.{pos, _-ℤ_, negℤ}
 use mir.Syntax.{w32}
 use mir.Val.{toZ, ofZ}
-use Rattle.std.specs.declared.option.Option.the-variants.{Some, None}
+use Rattle.std.specs.declared.option.Option.the-variants.{Some}
 use Rattle.std.proofs.shelf.Lists.{take-rest}
 use Rattle.std.proofs.shelf.Signed.{ints}
-use Rattle.set_file.specs.Numbers.{minus, plus, unsignedOf}
-use Rattle.set_file.proofs.Numbers.{number-minus, number-plus}
+use Rattle.set_file.specs.Numbers.{minus, unsignedOf}
+use Rattle.set_file.proofs.Numbers.{number-minus}
 use Rattle.set_file.proofs.word.number.Needs as need
 
 pub returns-in-Break-digits : need.returns-in-Break-digits
