@@ -15,7 +15,7 @@ use Rattle.std.specs.declared.result.Result.{Result}
 use Rattle.std.specs.declared.result.Result.the-variants.{Ok, Err}
 use Rattle.std.specs.Options.{isSome}
 use Rattle.std.proofs.shelf.Ways.{tells}
-use Rattle.std.proofs.shelf.Tests.{cond-true, cond-false, cases-bool}
+use Rattle.std.proofs.shelf.Tests.{cond-true, cond-false, cases-bool, ltb-false, true≢false}
 use Rattle.set_file.specs.declared.word.Place.{Place}
 use Rattle.set_file.specs.declared.word.WordFault.{WordFault}
 use Rattle.set_file.specs.declared.word.WordFault.the-variants.{Form, Range}
@@ -67,15 +67,12 @@ by-word (Ok x) k f h bad good = good x h
 by-word (Err e) k f h bad good = bad e refl (same-err (Word e) f h)
 
 both-ways : (b : Bool) → b ≡ true → b ≡ false → ⊥
-both-ways b p q = let e : true ≡ false = sym p ∙ q in let z : _≡_ {A = ℕ} 0 1 = cc in absurd (omega arith)
+both-ways b p q = true≢false (sym p ∙ q)
 
 one-byte : (key : List ℕ) (k : ℕ) → eqb (length key) 1 ≡ true → eqb (getD key 0 0) k ≡ true → key ≡ k ∷ []
 one-byte [] k h e = absurd (grind (arith, tells))
 one-byte (b ∷ []) k h e = let same : b ≡ k = grind (arith, tells) in ap (λ (x : ℕ). x ∷ []) same
 one-byte (b ∷ c ∷ bs) k h e = absurd (grind (arith, tells))
-
-not-below : (a b : ℕ) → ltb a b ≡ false → b ≤ a
-not-below a b h = grind (arith, tells)
 
 module _ (line : List ℕ) (n points triangles : ℕ) where
   abbrev So : LineFault → Type 0
@@ -104,7 +101,7 @@ module _ (line : List ℕ) (n points triangles : ℕ) where
         by-word _ _ f h (λ e r q. subst So q (bad 2 a (at-word 2) e r)) (λ x h2.
         by-word _ _ f h2 (λ e r q. subst So q (bad 3 b (at-word 3) e r)) (λ y h3.
         by-word _ _ f h3 (λ e r q. subst So q (bad 4 c (at-word 4) e r)) (λ z h4.
-        by-test (ltb points 65536) _ _ f h4 (λ t p. not-ok _ f p) (λ t p. full-so f (inl (not-below points 65536 t)) p))))
+        by-test (ltb points 65536) _ _ f h4 (λ t p. not-ok _ f p) (λ t p. full-so f (inl (ltb-false points 65536 t)) p))))
 
     face-so : key ≡ codes "f" → faceBy (Some (record { a = a; b = b; c = c })) n points triangles ≡ Err f → So f
     face-so k h =
@@ -114,7 +111,7 @@ module _ (line : List ℕ) (n points triangles : ℕ) where
         by-word _ _ f h2 (λ e r q. subst So q (bad 3 b (at-word 3) e r)) (λ y h3.
         by-word _ _ f h3 (λ e r q. subst So q (bad 4 c (at-word 4) e r)) (λ z h4.
         by-test (eqb x y || (eqb y z || eqb z x)) _ _ f h4 (λ t p. subst So (same-err (Same n) f p) refl) (λ t h5.
-        by-test (ltb triangles 65536) _ _ f h5 (λ u p. not-ok _ f p) (λ u p. full-so f (inr (not-below triangles 65536 u)) p)))))
+        by-test (ltb triangles 65536) _ _ f h5 (λ u p. not-ok _ f p) (λ u p. full-so f (inr (ltb-false triangles 65536 u)) p)))))
 
   -- the line begins with a key
   module _ (key : List ℕ) (f : LineFault) where

@@ -1,4 +1,4 @@
--- A line by its first word. Assumes nothing.
+-- A line whose first word is no comment is read by that word. Assumes nothing.
 use mathlib.Core.Path.{_≡_, sym, _∙_}
 use mathlib.Core.Logic.{⊎-elim}
 use mathlib.Core.List.{List, [], _∷_}

@@ -2,17 +2,15 @@
 use mathlib.Core.Path.{_≡_, refl, sym, ap, subst, _∙_}
 use mathlib.Core.Logic.{_⊎_, inl, inr, ⊎-elim}
 use mathlib.Core.List.{List, [], _∷_, _++_, append-assoc, append-nil}
-use Prim.Native.Nat.{ℕ, zero, suc, _+_, _≤_, _<_}
+use Prim.Native.Nat.{ℕ, zero, suc, _+_, _<_}
 use native.Mathlib.Nat.{add-zero}
 use native.Mathlib.Omega.{arith}
-use lib.Dec.{leb}
 use lib.ListN.{length}
 use Rattle.std.specs.declared.option.Option.{Option}
 use Rattle.std.specs.declared.option.Option.the-variants.{Some, None}
 use Rattle.std.specs.declared.result.Result.{Result}
 use Rattle.std.specs.declared.result.Result.the-variants.{Ok, Err}
-use Rattle.std.proofs.shelf.Tests.{cond-false, cases-bool, lt-leb}
-use Rattle.std.proofs.shelf.Ways.{tells}
+use Rattle.std.proofs.shelf.Tests.{cond-false, cases-lt, lt-leb}
 use Rattle.mesh.specs.declared.Point.{Point}
 use Rattle.mesh.specs.declared.Triangle.{Triangle}
 use Rattle.set_file.specs.declared.line.Entry.{Entry}
@@ -136,15 +134,12 @@ ended m (l ∷ ls) n s = by-entry m l ls n s (λ e k. ended k ls (n + 1) (with-e
 too-long : (m : Memory-for) (limit : ℕ) (bytes : List ℕ) (s : Lists) → limit < length bytes → reading m limit bytes s ≡ stopped s Size
 too-long m limit bytes s h = cond-false _ _ _ (lt-leb (length bytes) limit h)
 
-either : (a b : ℕ) → (b < a) ⊎ (a ≤ b)
-either a b = ⊎-elim (λ t. inr (grind (arith, tells))) (λ t. inl (grind (arith, tells))) (cases-bool (leb a b))
-
 pub line-by-line : Line-by-line
 line-by-line m limit bytes s =
     ⊎-elim
     (λ h. inl (h, too-long m limit bytes s h))
     (λ h. inr (h, subst (λ r. Ending m (lines bytes) 1 s r) (sym (in-limit m limit bytes s h)) (ended m (lines bytes) 1 s)))
-    (either (length bytes) limit)
+    (cases-lt limit (length bytes))
 
 led : (ls : List (List ℕ)) (n : ℕ) (s t : Lists) → Lead ls n s t → readLines all ls n s ≡ record { held = t; answer = Ok tt }
 led [] n s t p = ap (λ (x : Lists). record { held = x; answer = Ok tt }) (sym p)

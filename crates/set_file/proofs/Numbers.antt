@@ -1,14 +1,14 @@
 -- Laws of the numbers that words write. Assumes nothing.
-use mathlib.Core.Path.{_≡_, refl}
+use mathlib.Core.Path.{_≡_}
 use mathlib.Core.Logic.{_⊎_, inl, inr}
 use mathlib.Core.List.{List, [], _∷_}
 use Prim.Native.Nat.{ℕ, _+_, _-_, _*_, _^_, _≤_, _<_}
 use native.Mathlib.Nat.{pow-le-pow-right}
 use native.Mathlib.Omega.{arith}
 use lib.ListN.{length, getD, drop}
-use Rattle.std.proofs.shelf.Tests.{cond-true, cond-false, le-leb, lt-leb, and-from, and-left, and-right, eq-eqb, ne-eqb}
+use Rattle.std.proofs.shelf.Tests.{cond-true, cond-false, le-leb, lt-leb, and-from, and-left, and-right, eq-eqb}
 use Rattle.std.specs.declared.option.Option.the-variants.{None}
-use Rattle.set_file.specs.Numbers.{after, unsignedOf, numberOf, plus, minus}
+use Rattle.set_file.specs.Numbers.{after, unsignedOf, numberOf, minus}
 
 pub sized : (bs : List ℕ) → 0 < length bs → length bs ≤ 5 → unsignedOf bs ≡ after 0 bs
 sized [] h k = absurd (omega arith)

@@ -3,7 +3,7 @@ use mathlib.Core.Path.{_≡_, refl, sym, ap, _∙_}
 use mathlib.Core.Bool.{true, false}
 use mathlib.Core.Logic.{inl, inr}
 use mathlib.Core.List.{List, _∷_}
-use Prim.Native.Nat.{ℕ, _+_, _≤_, _<_}
+use Prim.Native.Nat.{ℕ, _+_, _≤_}
 use native.Mathlib.Nat.{add-assoc, zero-add}
 use native.Mathlib.Numerals.{one-add}
 use native.Mathlib.Omega.{arith}
@@ -11,13 +11,13 @@ use lib.ListN.{length}
 use Rattle.std.specs.declared.option.Option.the-variants.{Some, None}
 use Rattle.std.specs.declared.result.Result.{Result}
 use Rattle.std.specs.declared.result.Result.the-variants.{Ok, Err}
-use Rattle.std.proofs.shelf.Tests.{cond-true, cond-false, le-leb, lt-leb}
+use Rattle.std.proofs.shelf.Tests.{cond-true, le-leb}
 use Rattle.set_file.specs.declared.line.Entry.{Entry}
 use Rattle.set_file.specs.declared.line.Entry.the-variants.{Nothing, Vertex, Face}
 use Rattle.set_file.specs.declared.line.LineFault.{LineFault}
 use Rattle.set_file.specs.declared.line.LineFault.the-variants.{Memory}
 use Rattle.set_file.specs.declared.file.FileFault.{FileFault}
-use Rattle.set_file.specs.declared.file.FileFault.the-variants.{Size, Line}
+use Rattle.set_file.specs.declared.file.FileFault.the-variants.{Line}
 use Rattle.set_file.specs.Parts.{lines}
 use Rattle.set_file.proofs.Cuts.{no-lines}
 use Rattle.set_file.specs.Files.{Lists, Memory-for, all, only, stopped, with-entry, one-less, spend, orShort, enter, entryAt, readLines, reading, Reads, Outgrown, short}

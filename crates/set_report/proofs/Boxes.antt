@@ -5,7 +5,7 @@ use Prim.Native.Nat.{ℕ, _≤_, _<_}
 use native.Mathlib.Omega.{arith}
 use lib.IntN.{ℤ, pos}
 use lib.ListN.{length, getD, take}
-use lib.Signed.{_≤ℤ_}
+use lib.Signed.{_≤ℤ_, ≤ℤ-refl}
 use Rattle.std.specs.Numbers.{minZ, maxZ}
 use Rattle.std.specs.shelf.Lists.{folded, All}
 use Rattle.std.proofs.shelf.Lists.{take-all}
@@ -36,11 +36,8 @@ max-below a b c h k = grind (arith, ints)
 chain : (a b c : ℤ) → a ≤ℤ b → b ≤ℤ c → a ≤ℤ c
 chain a b c h k = omega (arith, ints)
 
-same-point : (p : ℤ) → p ≤ℤ p
-same-point p = omega (arith, ints)
-
 below-same : (p : Point) → Below p p
-below-same p = record { x = same-point (p .x); y = same-point (p .y); z = same-point (p .z) }
+below-same p = record { x = ≤ℤ-refl (p .x); y = ≤ℤ-refl (p .y); z = ≤ℤ-refl (p .z) }
 
 below-chain : (a b c : Point) → Below a b → Below b c → Below a c
 below-chain a b c h k = record { x = chain _ _ _ (h .x) (k .x); y = chain _ _ _ (h .y) (k .y); z = chain _ _ _ (h .z) (k .z) }

@@ -38,7 +38,7 @@ boundsText (Some b) = sidesText b
 
 abbrev pub wordQuestion : WordFault → List ℕ
 wordQuestion (Form at) = codes "is the word a number of one to five digits, with or without a minus?"
-wordQuestion (Range at) = codes "is the number in range: from -10000 to 10000 after `v`, a point that came before after `f`?"
+wordQuestion (Range at) = codes "is the number in range: after `v` from -10000 to 10000, after `f` an earlier point?"
 
 abbrev pub lineQuestion : LineFault → List ℕ
 lineQuestion (First n) = codes "is the first word `v` or `f`?"

@@ -54,7 +54,7 @@ fn word_question(fault: WordFault) -> &'static str
         WordFault::Form(_) =>
             "is the word a number of one to five digits, with or without a minus?",
         WordFault::Range(_) =>
-            "is the number in range: from -10000 to 10000 after `v`, a point that came before after `f`?",
+            "is the number in range: after `v` from -10000 to 10000, after `f` an earlier point?",
     }
 }
 
