@@ -1,5 +1,7 @@
 // Meshes: points, triangles and half-edges, and the interface that every mesh stands behind.
 // What a mesh means and which rules it keeps is written down in specs/, and in docs/MESH.md.
+#![tactic(auto)]
+
 mod half_edge;
 mod interface;
 mod laws;

@@ -1,4 +1,6 @@
 // Counts over any mesh: shared and border edges, and points that no triangle uses.
+#![tactic(auto)]
+
 mod edges;
 mod laws;
 mod unused;

@@ -1,5 +1,7 @@
 // The meshes that come with the module: a stored mesh over lists, with pairing to make its twin list; a depth
 // grid over readings; a mirrored mesh over any mesh. What each means is in crate mesh and in docs/MESHES.md.
+#![tactic(auto)]
+
 mod grid;
 mod lists;
 mod mirrored;

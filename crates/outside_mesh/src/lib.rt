@@ -1,5 +1,7 @@
 // A mesh written outside the module: a fan of triangles around one point. It shows that the interface can be
 // met from elsewhere, and that what is written for every mesh then works over it.
+#![tactic(auto)]
+
 #[cfg(test)]
 mod tests;
 

@@ -1,5 +1,7 @@
 // What pairing costs: flat floors of three sizes, with their triangles in the order of drawing and shuffled.
 // With the argument `quick` it leaves out the largest floor and the times, so that its output is always the same.
+#![tactic(auto)]
+
 ghost use Rattle.std.specs.Prelude.{◌≡◌, ◌+◌, ◌<◌, ◌≤◌, [], ◌∷◌, if◌then◌else◌, Some, None};
 ghost use Rattle.std.specs.List.Sorted.{IsPermutation};
 ghost use Rattle.mesh.specs.Stored.{stored, stored_fits};

@@ -1,5 +1,7 @@
 // Reads a set file from standard input, and prints a report on it for people.
 // It ends with status 0 if the set can be loaded, and with status 1 if it cannot.
+#![tactic(auto)]
+
 use anyhow::anyhow;
 use set_file::LIBRARY_LIMIT;
 use set_report::{report_on, report_text};

@@ -1,4 +1,6 @@
 // Prints the report on each file that is named, under its name.
+#![tactic(auto)]
+
 use set_report::{report_on, report_text};
 use std::{env, fs};
 

@@ -1,5 +1,7 @@
 // Reads a set file: the points and triangles of a stage set, from bytes.
 // The format is written down in specs/, from words to the whole file, and in docs/SET-FILE.md.
+#![tactic(auto)]
+
 mod file;
 mod laws;
 mod line;

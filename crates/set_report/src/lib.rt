@@ -1,4 +1,6 @@
 // What there is to say about a set file, and the text that says it.
+#![tactic(auto)]
+
 mod bounds;
 mod joints;
 mod report;

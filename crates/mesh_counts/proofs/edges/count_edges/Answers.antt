@@ -13,4 +13,4 @@ count-one-edges-requires g c =
     }
 
 pub loop-h-preserved : goal.loop-h-preserved
-loop-h-preserved g c = edges_more (g.M.Mesh.meaning c.args.mesh.now) c.loop-h.h _ _ c.loop-h.invariant c.count-one-edges.ensures
+loop-h-preserved g c = edges_more (g.M.Mesh.meaning c.args.mesh.now) c.loop-h.h _ _ c.loop-h.invariant c.count_one-edges.ensures

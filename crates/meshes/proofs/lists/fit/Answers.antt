@@ -24,6 +24,6 @@ returns-then-not-all-near c =
 pub returns : goal.returns
 unfolding set_fits
 returns c =
-    pass _ _ _ (le-leb (length c.args.points.now) 65536 c.if-points-gt-ENTRY-LIMIT.false)
-    (pass _ _ _ (le-leb (length c.args.triangles.now) 65536 c.if-triangles-gt-ENTRY-LIMIT.false)
-    (pass _ _ _ (sym c.if-not-all-near.ensures) c.all-sound.ensures))
+    pass _ _ _ (le-leb (length c.args.points.now) 65536 c.if-points-gt-ENTRY_LIMIT.false)
+    (pass _ _ _ (le-leb (length c.args.triangles.now) 65536 c.if-triangles-gt-ENTRY_LIMIT.false)
+    (pass _ _ _ (sym c.if-not-all_near.ensures) c.all-sound.ensures))

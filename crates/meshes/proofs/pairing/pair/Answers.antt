@@ -16,8 +16,8 @@ pair-all-requires c =
 
 pub returns : goal.returns
 returns c =
-    let f = sym c.if-not-fit-with-twins.ensures in
+    let f = sym c.if-not-fit_with_twins.ensures in
     let l = listed c.args.points.now c.args.triangles.now c.args.twins.now f in
     let many : length c.args.twins.now ≡ 3 * length c.args.triangles.now = l.many in
-    let paired = c.pair-all.ensures ∙ ap (λ n. pair_below (stored_start c.args.triangles.now) n n) many in
+    let paired = c.pair_all.ensures ∙ ap (λ n. pair_below (stored_start c.args.triangles.now) n n) many in
     record { says = search rules; pairs = search rules }

@@ -16,7 +16,7 @@ pub loop-n-preserved : goal.loop-n-preserved
 loop-n-preserved c =
     let p = belongs c.args.class in
     let d = at_drop_more (span p) c.args.bytes.now c.loop-n.n 0 (omega arith) in
-    let z = span_step p (get_or c.args.bytes.now c.loop-n.n 0) (drop (c.loop-n.n + 1) c.args.bytes.now) (sym c.is-in.ensures ∙ c.if-not-is-in.false) in
+    let z = span_step p (get_or c.args.bytes.now c.loop-n.n 0) (drop (c.loop-n.n + 1) c.args.bytes.now) (sym c.is_in.ensures ∙ c.if-not-is_in.false) in
     omega (arith, c.loop-n.invariant, d, z)
 
 pub returns : goal.returns

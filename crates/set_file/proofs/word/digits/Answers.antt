@@ -7,7 +7,7 @@ use Rattle.set_file.proofs.word.digits.Goals as goal
 pub returns-then-b-lt48 : goal.returns-then-b-lt48
 returns-then-b-lt48 c =
     record {
-      value = sym (sized c.args.ds.now (omega (arith, false-eqb _ 0 c.if-is-empty.ensures)) (omega arith) ∙ sym c.loop-b.invariant.0 ∙ at_drop_more (after c.loop-b.n) c.args.ds.now c.loop-b.b-index 0 c.loop-b-test.true ∙ after_other c.loop-b.n (get_or c.args.ds.now c.loop-b.b-index 0) (drop (c.loop-b.b-index + 1) c.args.ds.now) c.then-b-lt48.either);
+      value = sym (sized c.args.ds.now (omega (arith, false-eqb _ 0 c.if-is_empty.ensures)) (omega arith) ∙ sym c.loop-b.invariant.0 ∙ at_drop_more (after c.loop-b.n) c.args.ds.now c.loop-b.b-index 0 c.loop-b-test.true ∙ after_other c.loop-b.n (get_or c.args.ds.now c.loop-b.b-index 0) (drop (c.loop-b.b-index + 1) c.args.ds.now) c.then-b-lt48.either);
       small = tt;
     }
 
@@ -19,6 +19,6 @@ loop-b-preserved c = (
 
 pub returns : goal.returns
 returns c = record {
-  value = sym (sized c.args.ds.now (omega (arith, false-eqb _ 0 c.if-is-empty.ensures)) (omega arith) ∙ sym c.loop-b.invariant.0 ∙ at_drop_all (after c.loop-b.n) c.args.ds.now c.loop-b.b-index (omega arith));
+  value = sym (sized c.args.ds.now (omega (arith, false-eqb _ 0 c.if-is_empty.ensures)) (omega arith) ∙ sym c.loop-b.invariant.0 ∙ at_drop_all (after c.loop-b.n) c.args.ds.now c.loop-b.b-index (omega arith));
   small = let few : c.loop-b.b-index ≤ 5 = omega arith in omega (arith, ten_pow _ few);
 }

@@ -11,7 +11,7 @@ pub returns-then-x-gt-READING-LIMIT : goal.returns-then-x-gt-READING-LIMIT
 returns-then-x-gt-READING-LIMIT c = every_stop small c.args.readings.now c.loop-x.x-index 0 c.loop-x-test.true (lt-leb (get_or c.args.readings.now c.loop-x.x-index 0) 10000 c.if-x-gt-READING-LIMIT.true) c.loop-x.invariant
 
 pub loop-x-preserved : goal.loop-x-preserved
-loop-x-preserved c = every_more small c.args.readings.now c.loop-x.x-index 0 c.loop-x-test.true (le-leb (get_or c.args.readings.now c.loop-x.x-index 0) 10000 c.if-x-gt-READING-LIMIT.false) c.loop-x.invariant
+loop-x-preserved c = every_more small c.args.readings.now c.loop-x.x-index 0 c.loop-x-test.true (le-leb (get_or c.args.readings.now c.loop-x.x-index 0) 10000 c.if-x-gt-READING_LIMIT.false) c.loop-x.invariant
 
 pub returns : goal.returns
 returns c = every_end small c.args.readings.now c.loop-x.x-index c.loop-x-test.false c.loop-x.invariant

@@ -24,15 +24,15 @@ returns-then-not-is-within-3 c =
 pub returns-then-readings-columns : goal.returns-then-readings-columns
 unfolding grid_fits
 returns-then-readings-columns c =
-    pass _ _ _ (sym c.if-not-is-within.ensures)
-    (pass _ _ _ (sym c.if-not-is-within-2.ensures)
-    (pass _ _ _ (sym c.if-not-is-within-3.ensures)
+    pass _ _ _ (sym c.if-not-is_within.ensures)
+    (pass _ _ _ (sym c.if-not-is_within-2.ensures)
+    (pass _ _ _ (sym c.if-not-is_within-3.ensures)
     (stop _ _ (ne_eqb (length c.args.readings.now) (c.args.columns * c.args.rows) c.if-readings-columns.true))))
 
 pub returns : goal.returns
 unfolding grid_fits
 returns c =
-    pass _ _ _ (sym c.if-not-is-within.ensures)
-    (pass _ _ _ (sym c.if-not-is-within-2.ensures)
-    (pass _ _ _ (sym c.if-not-is-within-3.ensures)
+    pass _ _ _ (sym c.if-not-is_within.ensures)
+    (pass _ _ _ (sym c.if-not-is_within-2.ensures)
+    (pass _ _ _ (sym c.if-not-is_within-3.ensures)
     (pass _ _ _ (eq-eqb (length c.args.readings.now) (c.args.columns * c.args.rows) c.if-readings-columns.false) c.all-small.ensures)))

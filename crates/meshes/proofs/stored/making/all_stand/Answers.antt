@@ -10,7 +10,7 @@ pub returns-then-not-twin-stands : goal.returns-then-not-twin-stands
 returns-then-not-twin-stands c = below_stop (twin_kept c.args.triangles.now c.args.twins.now) (length c.args.twins.now) c.loop-h.h (search rules) (sym c.if-not-twin-stands.ensures) c.loop-h.invariant
 
 pub loop-h-preserved : goal.loop-h-preserved
-loop-h-preserved c = below_more (twin_kept c.args.triangles.now c.args.twins.now) (length c.args.twins.now) c.loop-h.h (search rules) (sym c.if-not-twin-stands.ensures) c.loop-h.invariant
+loop-h-preserved c = below_more (twin_kept c.args.triangles.now c.args.twins.now) (length c.args.twins.now) c.loop-h.h (search rules) (sym c.if-not-twin_stands.ensures) c.loop-h.invariant
 
 pub returns : goal.returns
 returns c = below_end (twin_kept c.args.triangles.now c.args.twins.now) (length c.args.twins.now) c.loop-h.h (search rules) c.loop-h.invariant

@@ -13,4 +13,4 @@ all-stand-requires c = record { few = (listed c.args.points.now c.args.triangles
 
 pub returns : goal.returns
 unfolding stored_fits
-returns c = pass _ _ _ (sym c.if-not-fit-with-twins.ensures) c.all-stand.ensures
+returns c = pass _ _ _ (sym c.if-not-fit_with_twins.ensures) c.all_stand.ensures
