@@ -4,7 +4,7 @@ use Rattle.std.proofs.lemmas.List.{length_push}
 use Rattle.std.proofs.lemmas.Bool.{and_parts, and_from, or_parts, not_from_false, ltb-true, lt-ltb, leb-true, le-leb}
 use Rattle.mesh.specs.declared.Triangle.{Triangle}
 use Rattle.std.specs.List.{list_all}
-use Rattle.mesh.specs.Model.{in_limits}
+use Rattle.mesh.specs.Model.{in_limits as near_origin}
 use Rattle.mesh.specs.Stored.{near, sound, set_fits}
 use Rattle.mesh.proofs.Every.{every_push, every_weaker}
 use Rattle.set_file.specs.declared.word.Place.{Place}
@@ -13,7 +13,7 @@ use Rattle.set_file.specs.declared.line.Entry.{Entry}
 use Rattle.set_file.specs.declared.line.Entry.TheVariants.{Nothing, Vertex, Face}
 use Rattle.set_file.specs.declared.line.LineFault.{LineFault}
 use Rattle.set_file.specs.Parts.{words}
-use Rattle.set_file.specs.Numbers.{number_of, within, coordinate_of, earlier, from_zero, corner_of}
+use Rattle.set_file.specs.Numbers.{number_of, within, in_limits, coordinate_of, earlier, from_zero, corner_of}
 use Rattle.set_file.specs.Tokens.{is_comment}
 use Rattle.set_file.specs.Lines.{Trio, three_of, and_then, place, vertex_by, face_by, by_key, by_words}
 use Rattle.set_file.specs.declared.file.FileFault.{FileFault}
@@ -35,8 +35,15 @@ good_word : (test : ℤ → Bool) (o : Option ℤ) (at : Place) (v : ℤ) → wi
 good_word test None at v h = not_err _ v h
 good_word test (Some w) at v h = by_test (test w) (Ok w) _ (Ok v) h (λ t p. let same : w ≡ v = cc in ap test (sym same) ∙ t) (λ t p. not_err _ v p)
 
-coordinate : (word : List ℕ) (at : Place) (v : ℤ) → coordinate_of word at ≡ Ok v → in_limits v ≡ true
-coordinate word at v h = good_word in_limits (number_of word) at v h
+-- the limits of a coordinate, as a file has them and as a mesh has them
+within_mesh : (v : ℤ) → in_limits v ≡ true → near_origin v ≡ true
+within_mesh (pos n) e = let (a, b) = and_parts true (leb n 10000) e in b
+within_mesh (negsuc n) e =
+    let (a, b) = and_parts (leb n 9999) true e in
+    le-leb (nat_abs (negsuc n)) 10000 (let p = leb-true n 9999 a in omega arith)
+
+coordinate : (word : List ℕ) (at : Place) (v : ℤ) → coordinate_of word at ≡ Ok v → near_origin v ≡ true
+coordinate word at v h = within_mesh v (good_word in_limits (number_of word) at v h)
 
 below : (points : ℕ) (v : ℤ) → earlier points v ≡ true → ltb (nat_abs v - 1) points ≡ true
 below points (pos n) e =
@@ -73,8 +80,8 @@ module _ (n points triangles : ℕ) (e : Entry) where
       (λ f m.
       let same : Vertex (record { x = x; y = y; z = z }) ≡ e = cc in
       subst (Good points triangles) same (
-        and_from (in_limits x) (in_limits y && in_limits z) (coordinate t.a (place n 2) x p)
-            (and_from (in_limits y) (in_limits z) (coordinate t.b (place n 3) y q) (coordinate t.c (place n 4) z r)),
+        and_from (near_origin x) (near_origin y && near_origin z) (coordinate t.a (place n 2) x p)
+            (and_from (near_origin y) (near_origin z) (coordinate t.b (place n 3) y q) (coordinate t.c (place n 4) z r)),
         ltb-true points 65536 f,
       ))
       (λ f m. not_err _ e m))))

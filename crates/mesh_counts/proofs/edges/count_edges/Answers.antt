@@ -3,10 +3,10 @@ use Rattle.mesh_counts.specs.declared.edges.Edges.{Edges}
 use Rattle.mesh_counts.proofs.EdgeLaw.{few_shared, few_border, edges_more}
 use Rattle.mesh_counts.proofs.edges.count_edges.Goals as goal
 
-pub count-one-edges-requires : goal.count-one-edges-requires
-count-one-edges-requires g c =
+pub count_one-edges-requires : goal.count_one-edges-requires
+count_one-edges-requires g c =
     let l = g.M.Mesh.lawful c.args.mesh.now in
-    let few = l.few-triangles in
+    let few = l.few_triangles in
     record {
       shared = omega (arith, ap (λ (e : Edges). e.shared) c.loop-h.invariant, few_shared _ l c.loop-h.h);
       border = omega (arith, ap (λ (e : Edges). e.border) c.loop-h.invariant, few_border _ l c.loop-h.h);

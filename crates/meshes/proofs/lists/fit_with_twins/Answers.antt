@@ -8,8 +8,8 @@ pub returns-then-not-fit : goal.returns-then-not-fit
 unfolding lists_fit
 returns-then-not-fit c = stop _ _ (sym c.if-not-fit.ensures)
 
-pub overflow-mul-result : goal.overflow-mul-result
-overflow-mul-result c = let f = fitting c.args.points.now c.args.triangles.now (sym c.if-not-fit.ensures) in let few = f.few_triangles in search rules
+pub overflow_mul-result : goal.overflow_mul-result
+overflow_mul-result c = let f = fitting c.args.points.now c.args.triangles.now (sym c.if-not-fit.ensures) in let few = f.few_triangles in search rules
 
 pub returns : goal.returns
 unfolding lists_fit

@@ -14,6 +14,6 @@ pub returns-in-1 : goal.returns-in-1
 unfolding stored_start
 returns-in-1 c = search rules
 
-pub returns-in-default : goal.returns-in-default
+pub returns-in_default : goal.returns-in_default
 unfolding stored_start
-returns-in-default c = let e : c.args.h % 3 ≡ 2 = omega arith in search rules
+returns-in_default c = let e : c.args.h % 3 ≡ 2 = omega arith in search rules

@@ -5,9 +5,9 @@ use Rattle.mesh.proofs.StoredRules.{listed}
 use Rattle.mesh.proofs.PairedRules.{apart}
 use Rattle.meshes.proofs.pairing.pair.Goals as goal
 
-pub pair-all-requires : goal.pair-all-requires
-pair-all-requires c =
-    let f = sym c.if-not-fit-with-twins.ensures in
+pub pair_all-requires : goal.pair_all-requires
+pair_all-requires c =
+    let f = sym c.if-not-fit_with_twins.ensures in
     let l = listed c.args.points.now c.args.triangles.now c.args.twins.now f in
     record {
       few = l.few;

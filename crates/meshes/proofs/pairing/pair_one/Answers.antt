@@ -19,8 +19,8 @@ mate-requires c = record {
   free = eq-eqb (get_or c.args.twins.now c.args.h 0) no_twin c.if-twins-h.false;
 }
 
-pub offset-bounds-twins-g : goal.offset-bounds-twins-g
-offset-bounds-twins-g c = let i = inside c in search rules
+pub offset_bounds-twins-g : goal.offset_bounds-twins-g
+offset_bounds-twins-g c = let i = inside c in search rules
 
 pub bounds-twins-g : goal.bounds-twins-g
 bounds-twins-g c = let i = inside c in search rules
@@ -28,5 +28,5 @@ bounds-twins-g c = let i = inside c in search rules
 pub returns-in-Some : goal.returns-in-Some
 returns-in-Some c = paired_now (stored_start c.args.triangles.now) c.args.twins.now c.args.h c.in-Some.g c.if-twins-h.false (sym c.in-Some.ensures)
 
-pub returns-in-default : goal.returns-in-default
-returns-in-default c = paired_none (stored_start c.args.triangles.now) c.args.twins.now c.args.h c.if-twins-h.false (search rules)
+pub returns-in_default : goal.returns-in_default
+returns-in_default c = paired_none (stored_start c.args.triangles.now) c.args.twins.now c.args.h c.if-twins-h.false (search rules)

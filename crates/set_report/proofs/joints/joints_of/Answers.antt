@@ -7,7 +7,7 @@ use Rattle.set_report.proofs.joints.joints_of.Goals as goal
 pub count-requires : goal.count-requires
 count-requires c = record {
   lists =
-      ap (stored_fits c.args.points.now c.args.triangles.now) (c.as-slice.ensures.value ∙ c.in-ok-twins.ensures)
+      ap (stored_fits c.args.points.now c.args.triangles.now) (c.as_slice.ensures.value ∙ c.in_ok-twins.ensures)
       ∙ pairs_stand c.args.points.now c.args.triangles.now c.requires;
   marks = search rules;
 }

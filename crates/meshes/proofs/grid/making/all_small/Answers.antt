@@ -7,8 +7,8 @@ use Rattle.meshes.proofs.grid.making.all_small.Goals as goal
 pub loop-x-init : goal.loop-x-init
 loop-x-init c = refl
 
-pub returns-then-x-gt-READING-LIMIT : goal.returns-then-x-gt-READING-LIMIT
-returns-then-x-gt-READING-LIMIT c = every_stop small c.args.readings.now c.loop-x.x-index 0 c.loop-x-test.true (lt-leb (get_or c.args.readings.now c.loop-x.x-index 0) 10000 c.if-x-gt-READING-LIMIT.true) c.loop-x.invariant
+pub returns-then-x-gt-READING_LIMIT : goal.returns-then-x-gt-READING_LIMIT
+returns-then-x-gt-READING_LIMIT c = every_stop small c.args.readings.now c.loop-x.x-index 0 c.loop-x-test.true (lt-leb (get_or c.args.readings.now c.loop-x.x-index 0) 10000 c.if-x-gt-READING_LIMIT.true) c.loop-x.invariant
 
 pub loop-x-preserved : goal.loop-x-preserved
 loop-x-preserved c = every_more small c.args.readings.now c.loop-x.x-index 0 c.loop-x-test.true (le-leb (get_or c.args.readings.now c.loop-x.x-index 0) 10000 c.if-x-gt-READING_LIMIT.false) c.loop-x.invariant

@@ -4,12 +4,12 @@ use Rattle.mesh.proofs.StoredRules.{listed}
 use Rattle.meshes.proofs.Questions.{stop, pass}
 use Rattle.meshes.proofs.stored.making.fits.Goals as goal
 
-pub returns-then-not-fit-with-twins : goal.returns-then-not-fit-with-twins
+pub returns-then-not-fit_with_twins : goal.returns-then-not-fit_with_twins
 unfolding stored_fits
-returns-then-not-fit-with-twins c = stop _ _ (sym c.if-not-fit-with-twins.ensures)
+returns-then-not-fit_with_twins c = stop _ _ (sym c.if-not-fit_with_twins.ensures)
 
-pub all-stand-requires : goal.all-stand-requires
-all-stand-requires c = record { few = (listed c.args.points.now c.args.triangles.now c.args.twins.now (sym c.if-not-fit-with-twins.ensures)).few }
+pub all_stand-requires : goal.all_stand-requires
+all_stand-requires c = record { few = (listed c.args.points.now c.args.triangles.now c.args.twins.now (sym c.if-not-fit_with_twins.ensures)).few }
 
 pub returns : goal.returns
 unfolding stored_fits
