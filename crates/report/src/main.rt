@@ -2,10 +2,10 @@
 // It ends with status 0 if the set can be loaded, and with status 1 if it cannot.
 #![tactic(auto)]
 
-use anyhow::anyhow;
 use set_file::LIBRARY_LIMIT;
 use set_report::{report_on, report_text};
 use std::io::Read;
+use std::process::ExitCode;
 
 // Prints the report, and says whether the set can be loaded.
 fn run(rt: &HostRuntime) -> anyhow::Result<bool> {
@@ -20,11 +20,11 @@ fn run(rt: &HostRuntime) -> anyhow::Result<bool> {
     Ok(report.fault.is_none())
 }
 
-fn main(rt: HostRuntime) -> anyhow::Result<()> {
-    match run(&rt) {
-        Ok(true) => Ok(()),
+fn main(rt: HostRuntime) -> anyhow::Result<ExitCode> {
+    if run(&rt)? {
+        Ok(ExitCode::SUCCESS)
+    } else {
         // The report has said why.
-        Ok(false) => Err(anyhow!("this set cannot be loaded")),
-        Err(e) => Err(e),
+        Ok(ExitCode::FAILURE)
     }
 }

@@ -2,7 +2,7 @@
 use Rattle.std.proofs.Common.{◌≡◌, ℕ, ◌<◌, ◌≤◌, List, [], ◌∷◌, length, get_or, take, ℤ, pos, ◌≤ℤ◌, Some, fold, ap, ◌∙◌, subst, arith}
 use lib.Signed.{≤ℤ_refl}
 use Rattle.std.specs.Int.{int_min, int_max}
-use Rattle.std.specs.List.{AllByRecursion as All}
+use Rattle.std.specs.List.{AllByRecursion}
 use Rattle.std.proofs.lemmas.List.{take_all}
 use Rattle.std.proofs.lemmas.Int.{ints}
 use Rattle.mesh.specs.declared.Point.{Point}
@@ -78,11 +78,11 @@ within_folded : (b : BoundingBox) (ps : List Point) → Within b (fold widened b
 within_folded b [] = record { low = below_same b.low; high = below_same b.high }
 within_folded b (p ∷ ps) = within_chain b (widened b p) (fold widened (widened b p) ps) (within_widened b p) (within_folded (widened b p) ps)
 
-folded_holds : (b : BoundingBox) (ps : List Point) → All (Holds (fold widened b ps)) ps
+folded_holds : (b : BoundingBox) (ps : List Point) → AllByRecursion (Holds (fold widened b ps)) ps
 folded_holds b [] = tt
 folded_holds b (p ∷ ps) = (holds_more (widened b p) (fold widened (widened b p) ps) p (within_folded (widened b p) ps) (widened_holds b p), folded_holds (widened b p) ps)
 
-folded_within : (b other : BoundingBox) (ps : List Point) → Within b other → All (Holds other) ps → Within (fold widened b ps) other
+folded_within : (b other : BoundingBox) (ps : List Point) → Within b other → AllByRecursion (Holds other) ps → Within (fold widened b ps) other
 folded_within b other [] w h = w
 folded_within b other (p ∷ ps) w h = folded_within (widened b p) other ps (widened_within b other p w h.0) h.1
 
@@ -91,7 +91,7 @@ smallest [] b e = let z : ◌≡◌ {A = ℕ} 0 1 = cc in absurd (omega arith)
 smallest (p ∷ ps) b e =
     let start : BoundingBox = record { low = p; high = p } in
     let same : fold widened start (p ∷ ps) ≡ b = cc in (
-      subst (λ (x : BoundingBox). All (Holds x) (p ∷ ps)) same (folded_holds start (p ∷ ps)),
+      subst (λ (x : BoundingBox). AllByRecursion (Holds x) (p ∷ ps)) same (folded_holds start (p ∷ ps)),
       λ other h.
           let w : Within b other = subst (λ (x : BoundingBox). Within x other) same (folded_within start other (p ∷ ps) (record { low = h.0.low; high = h.0.high }) h) in
           (w.low, w.high),

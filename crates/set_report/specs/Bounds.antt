@@ -1,7 +1,7 @@
 -- The smallest box that holds some points. Assumes nothing.
 use Rattle.std.specs.Prelude.{◌≡◌, List, [], ◌∷◌, ◌≤ℤ◌, Some, None, fold, Option}
 use Rattle.std.specs.Int.{int_min, int_max}
-use Rattle.std.specs.List.{AllByRecursion as All}
+use Rattle.std.specs.List.{AllByRecursion}
 use Rattle.mesh.specs.declared.Point.{Point}
 use Rattle.set_report.specs.declared.bounds.BoundingBox.{BoundingBox}
 
@@ -32,4 +32,4 @@ pub record Holds (b : BoundingBox) (p : Point) : Type 0 where
 
 -- the box of some points holds each of them, and lies within every box that does so
 abbrev pub Smallest : Type 0
-Smallest = (ps : List Point) (b : BoundingBox) → bounds_of ps ≡ Some b → All (Holds b) ps × ((other : BoundingBox) → All (Holds other) ps → Below other.low b.low × Below b.high other.high)
+Smallest = (ps : List Point) (b : BoundingBox) → bounds_of ps ≡ Some b → AllByRecursion (Holds b) ps × ((other : BoundingBox) → AllByRecursion (Holds other) ps → Below other.low b.low × Below b.high other.high)
