@@ -1,6 +1,6 @@
 // What a stored mesh replies.
 ghost use Rattle.std.specs.Prelude.{◌≡◌};
-ghost use Rattle.mesh.specs.Stored.{twin_of as twin_of};
+ghost use Rattle.mesh.specs.Stored.{twin_of};
 ghost use Rattle.mesh.proofs.StoredRules.{stored_lawful};
 ghost use Rattle.meshes.specs.Views.{stored_of};
 
