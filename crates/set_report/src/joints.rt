@@ -1,4 +1,4 @@
-// How the triangles of a set are joined.
+// How the triangles of a set are joined. No report tells it yet: the test is the only caller.
 ghost use Rattle.std.specs.Prelude.{◌≡◌, true, length, IfOk};
 ghost use Rattle.mesh.specs.Stored.{set_fits, stored_fits, stored};
 ghost use Rattle.mesh.specs.Pairing.{pairing};
@@ -65,3 +65,6 @@ pub(crate) fn joints_of(
     let mut marks = vec![in heap; false; points.len()]?;
     Ok(count(points, triangles, twins.as_slice(), marks.as_mut_slice()))
 }
+
+#[cfg(test)]
+mod tests;
