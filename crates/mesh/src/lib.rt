@@ -15,8 +15,8 @@ pub use limits::{COORDINATE_LIMIT, ENTRY_LIMIT, PAST_HALF_EDGES, in_limits};
 // In a twin list: no twin.
 pub const NO_TWIN: u32 = 4_294_967_295;
 
-// A place, in whole centimetres.
-#[derive(Clone, Copy, Debug, PartialEq, Eq)]
+// A place, in whole centimetres; by default the origin.
+#[derive(Clone, Copy, Debug, Default, PartialEq, Eq)]
 pub struct Point {
     pub x: i32,
     pub y: i32,
