@@ -36,7 +36,7 @@ module _ (V : ℕ) (some : 0 < V) where
   upper_is c d e = go (eqb (c / V) 0) refl
     where
       go : (b : Bool) → eqb (c / V) 0 ≡ b → c ≡ d + V
-      go true t = let n : cond (eqb (c / V) 0) None (Some (c - V)) ≡ None = cond-true (eqb (c / V) 0) None (Some (c - V)) t in let z : ◌≡◌ {A = ℕ} 0 1 = cc in absurd (omega arith)
+      go true t = let n : cond (eqb (c / V) 0) None (Some (c - V)) ≡ None = cond-true (eqb (c / V) 0) None (Some (c - V)) t in absurd cc
       go false t =
           let n : cond (eqb (c / V) 0) None (Some (c - V)) ≡ Some (c - V) = cond-false (eqb (c / V) 0) None (Some (c - V)) t in
           let m : c - V ≡ d = cc in
@@ -57,7 +57,7 @@ module _ (V : ℕ) (some : 0 < V) where
   left_is c d e = go (eqb (c % V) 0) refl
     where
       go : (b : Bool) → eqb (c % V) 0 ≡ b → (c ≡ d + 1) × (d % V + 1 < V)
-      go true t = let n : cond (eqb (c % V) 0) None (Some (c - 1)) ≡ None = cond-true (eqb (c % V) 0) None (Some (c - 1)) t in let z : ◌≡◌ {A = ℕ} 0 1 = cc in absurd (omega arith)
+      go true t = let n : cond (eqb (c % V) 0) None (Some (c - 1)) ≡ None = cond-true (eqb (c % V) 0) None (Some (c - 1)) t in absurd cc
       go false t =
           let n : cond (eqb (c % V) 0) None (Some (c - 1)) ≡ Some (c - 1) = cond-false (eqb (c % V) 0) None (Some (c - 1)) t in
           let m : c - 1 ≡ d = cc in
@@ -78,13 +78,13 @@ module _ (V : ℕ) (some : 0 < V) where
           let n : cond (ltb (c % V + 1) V) (Some (c + 1)) None ≡ Some (c + 1) = cond-true (ltb (c % V + 1) V) (Some (c + 1)) None t in
           let m : d ≡ c + 1 = cc in
           (m, ltb-true (c % V + 1) V t)
-      go false t = let n : cond (ltb (c % V + 1) V) (Some (c + 1)) None ≡ None = cond-false (ltb (c % V + 1) V) (Some (c + 1)) None t in let z : ◌≡◌ {A = ℕ} 0 1 = cc in absurd (omega arith)
+      go false t = let n : cond (ltb (c % V + 1) V) (Some (c + 1)) None ≡ None = cond-false (ltb (c % V + 1) V) (Some (c + 1)) None t in absurd cc
 
   right_from : (c : ℕ) → c % V + 1 < V → right V c ≡ Some (c + 1)
   right_from c h = cond-true (ltb (c % V + 1) V) (Some (c + 1)) None (lt-ltb (c % V + 1) V h)
 
 side_of : (o : Option ℕ) (s g : ℕ) → at_side o s ≡ Some g → (d : ℕ) × (o ≡ Some d) × (g ≡ 6 * d + s)
-side_of None s g e = let z : ◌≡◌ {A = ℕ} 0 1 = cc in absurd (omega arith)
+side_of None s g e = absurd cc
 side_of (Some d) s g e = let q : g ≡ 6 * d + s = cc in (d, refl, q)
 
 -- the side after a side, in its triangle
@@ -307,7 +307,7 @@ module _ (W H s : ℕ) (rs : List ℕ) (l : Limits W H s rs) where
     beside : across (W - 1) (h / 6) (h % 6) ≡ Some g
 
   twins_when : (h g : ℕ) (o : Option ℕ) → grid_present W H rs (h / 3) ≡ true → across (W - 1) (h / 6) (h % 6) ≡ o → when_present (grid_present W H rs) o ≡ Some g → Twins h g
-  twins_when h g None p a e = let z : ◌≡◌ {A = ℕ} 0 1 = cc in absurd (omega arith)
+  twins_when h g None p a e = absurd cc
   twins_when h g (Some f) p a e = go (grid_present W H rs (f / 3)) refl
     where
       go : (b : Bool) → grid_present W H rs (f / 3) ≡ b → Twins h g
@@ -317,7 +317,7 @@ module _ (W H s : ℕ) (rs : List ℕ) (l : Limits W H s rs) where
           record { here = p; there = ap (λ x. grid_present W H rs (x / 3)) (sym m) ∙ q; beside = a ∙ ap Some m }
       go false q =
           let n = cond-false (grid_present W H rs (f / 3)) (Some f) None q in
-          let z : ◌≡◌ {A = ℕ} 0 1 = cc in absurd (omega arith)
+          absurd cc
 
   twins_of : (h g : ℕ) → (grid W H s rs).twin h ≡ Some g → Twins h g
   twins_of h g e = go (grid_present W H rs (h / 3)) refl
@@ -326,7 +326,7 @@ module _ (W H s : ℕ) (rs : List ℕ) (l : Limits W H s rs) where
       go true p = twins_when h g (across (W - 1) (h / 6) (h % 6)) p refl (sym (cond-true (grid_present W H rs (h / 3)) (when_present (grid_present W H rs) (across (W - 1) (h / 6) (h % 6))) None p) ∙ e)
       go false p =
           let n = cond-false (grid_present W H rs (h / 3)) (when_present (grid_present W H rs) (across (W - 1) (h / 6) (h % 6))) None p in
-          let z : ◌≡◌ {A = ℕ} 0 1 = cc in absurd (omega arith)
+          absurd cc
 
   twins_from : (h g : ℕ) → Twins h g → (grid W H s rs).twin h ≡ Some g
   twins_from h g t =

@@ -1,5 +1,6 @@
 -- A mirrored mesh keeps the rules, and mirrored twice is the mesh again.
 use Rattle.std.proofs.Common.{◌≡◌, ℕ, zero, suc, ◌/◌, ◌≤◌, ℤ, pos, negsuc, neg_ℤ, nat_abs, Some, None, Option, sym, refl, ap, ◌∙◌, subst, arith}
+use Rattle.std.proofs.Math.IntN.{neg_ℤ-neg_ℤ}
 use Rattle.mesh.specs.declared.Point.{Point}
 use Rattle.mesh.specs.HalfEdges.{next}
 use Rattle.mesh.specs.Model.{MeshModel, Lawful, Near, origin}
@@ -9,11 +10,6 @@ neg_size : (z : ℤ) → nat_abs (neg_ℤ z) ≡ nat_abs z
 neg_size (pos zero) = refl
 neg_size (pos (suc n)) = refl
 neg_size (negsuc n) = refl
-
-neg_neg : (z : ℤ) → neg_ℤ (neg_ℤ z) ≡ z
-neg_neg (pos zero) = refl
-neg_neg (pos (suc n)) = refl
-neg_neg (negsuc n) = refl
 
 twice : (h : ℕ) → flip (flip h) ≡ h
 twice h = omega arith
@@ -31,7 +27,7 @@ mirror_mirror m = λ i. record {
   points = m.points;
   present = m.present;
   start = λ h. m.start (back_again h i);
-  place = λ p. record { x = neg_neg (m.place p).x i; y = (m.place p).y; z = (m.place p).z };
+  place = λ p. record { x = neg_ℤ-neg_ℤ (m.place p).x i; y = (m.place p).y; z = (m.place p).z };
   twin = λ h. (flip_twin_twice (m.twin (flip (flip h))) ∙ ap m.twin (twice h)) i;
 }
 
@@ -46,7 +42,7 @@ module _ (m : MeshModel) (l : Lawful m) where
   twin_inside h g e = go (m.twin (flip h)) refl
     where
       go : (o : Option ℕ) → m.twin (flip h) ≡ o → m.twin (flip h) ≡ Some (flip g)
-      go None p = let q : flip_twin (m.twin (flip h)) ≡ None = ap flip_twin p in let z : ◌≡◌ {A = ℕ} 0 1 = cc in absurd (omega arith)
+      go None p = let q : flip_twin (m.twin (flip h)) ≡ None = ap flip_twin p in absurd cc
       go (Some f) p =
           let q : flip_twin (m.twin (flip h)) ≡ Some (flip f) = ap flip_twin p in
           let r : flip f ≡ g = cc in

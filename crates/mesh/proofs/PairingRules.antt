@@ -12,7 +12,7 @@ TwinRule start twins = (h : ℕ) → h < length twins → (get_or twins h 0 ≡ 
 
 -- the lowest that passes, passes and lies in the range
 pub lowest_is : (test : ℕ → Bool) (count k g : ℕ) → lowest test count k ≡ Some g → (test g ≡ true) × (k ≤ g) × (g < k + count)
-lowest_is test zero k g e = let z : ◌≡◌ {A = ℕ} 0 1 = cc in absurd (omega arith)
+lowest_is test zero k g e = absurd cc
 lowest_is test (suc count) k g e = go (lowest_is test count (k + 1) g) (test k) refl e
   where
     go : (lowest test count (k + 1) ≡ Some g → (test g ≡ true) × (k + 1 ≤ g) × (g < k + 1 + count)) → (b : Bool) → test k ≡ b → cond b (Some k) (lowest test count (k + 1)) ≡ Some g → (test g ≡ true) × (k ≤ g) × (g < k + suc count)
@@ -172,7 +172,7 @@ lowest_all test zero k e x p q = absurd (omega arith)
 lowest_all test (suc count) k e x p q = go (lowest_all test count (k + 1)) (test k) refl (cases_eq k x)
   where
     go : (lowest test count (k + 1) ≡ None → (x : ℕ) → k + 1 ≤ x → x < k + 1 + count → test x ≡ false) → (b : Bool) → test k ≡ b → (k ≡ x) ⊎ (k ≡ x → ⊥) → test x ≡ false
-    go rest true t o = let n = cond-true (test k) (Some k) (lowest test count (k + 1)) t in let z : ◌≡◌ {A = ℕ} 0 1 = cc in absurd (omega arith)
+    go rest true t o = let n = cond-true (test k) (Some k) (lowest test count (k + 1)) t in absurd cc
     go rest false t (inl o) = ap test (sym o) ∙ t
     go rest false t (inr o) = rest (sym (cond-false (test k) (Some k) (lowest test count (k + 1)) t) ∙ e) x (omega arith) (omega arith)
 

@@ -19,14 +19,14 @@ module _ (m : MeshModel) (l : Lawful m) where
     where
       go : (b : Bool) → m.present (h / 3) ≡ b → m.present (h / 3) ≡ true
       go true p = p
-      go false p = let a = l.absent_twin h p in let z : ◌≡◌ {A = ℕ} 0 1 = cc in absurd (omega arith)
+      go false p = let a = l.absent_twin h p in absurd cc
 
   pub present_below : (t : ℕ) → m.present t ≡ true → t < m.triangles
   present_below t p = go (cases_lt t m.triangles)
     where
       go : (t < m.triangles) ⊎ (m.triangles ≤ t) → t < m.triangles
       go (inl h) = h
-      go (inr h) = let a = l.absent_above t h in let z : ◌≡◌ {A = ℕ} 0 1 = cc in absurd (omega arith)
+      go (inr h) = let a = l.absent_above t h in absurd cc
 
   pub twin_inside : (h g : ℕ) → m.twin h ≡ Some g → g < 3 * m.triangles
   twin_inside h g e = omega (arith, present_below (g / 3) (twin_present g h (l.back h g e)))

@@ -1,6 +1,9 @@
 -- A stored mesh whose lists fit keeps the rules.
 use Rattle.std.proofs.Common.{◌≡◌, ℕ, zero, suc, ◌+◌, ◌*◌, ◌/◌, ◌%◌, ◌<◌, ◌≤◌, Bool, true, false, not, ◌&&◌, eqb, ltb, leb, ◌⊎◌, List, length, get_or, nat_abs, Some, None, sym, refl, ap, ◌∙◌, subst, inl, inr, arith}
 use Rattle.std.proofs.lemmas.List.{get_or_past}
+use Rattle.std.proofs.lemmas.List.Elements.{All-get_or}
+use Rattle.std.proofs.lemmas.List.Sums.{AllPass-from_list_all}
+use Rattle.std.proofs.lemmas.Bool.Decides.{nat_tests}
 use Rattle.std.proofs.lemmas.Bool.{and_parts, and_from, eq-eqb, or_cases, not-true, ltb-true, ltb-false, lt-ltb, le-ltb, leb-true, eqb-true, eqb-false, ne_eqb, cond-true, cond-false, cases_lt}
 use Rattle.mesh.specs.declared.Point.{Point}
 use Rattle.mesh.specs.declared.Triangle.{Triangle}
@@ -9,13 +12,10 @@ use Rattle.mesh.specs.Model.{Lawful, Near, origin}
 use Rattle.std.specs.List.{list_all}
 use Rattle.mesh.specs.Every.{every_below}
 use Rattle.mesh.specs.Stored.{corner_of, blank, stored_start, no_twin, against, twin_of, stored_twin, stored, near, sound, answered, twin_kept, set_fits, lists_fit, stored_fits}
-use Rattle.mesh.proofs.Every.{every_at, below_at}
+use Rattle.mesh.proofs.Every.{below_at}
 
 near_is : (p : Point) → near p ≡ true → Near p
-near_is p e =
-    let (a, r) = and_parts (leb (nat_abs p.x) 10000) (leb (nat_abs p.y) 10000 && leb (nat_abs p.z) 10000) e in
-    let (b, d) = and_parts (leb (nat_abs p.y) 10000) (leb (nat_abs p.z) 10000) r in
-    record { x = leb-true (nat_abs p.x) 10000 a; y = leb-true (nat_abs p.y) 10000 b; z = leb-true (nat_abs p.z) 10000 d }
+near_is p e = record { x = grind (arith, nat_tests); y = grind (arith, nat_tests); z = grind (arith, nat_tests) }
 
 pub record Sound (P : ℕ) (t : Triangle) : Type 0 where
   pub a : t.a < P
@@ -26,20 +26,14 @@ pub record Sound (P : ℕ) (t : Triangle) : Type 0 where
   pub ca : t.c ≡ t.a → ⊥
 
 sound_is : (P : ℕ) (t : Triangle) → sound P t ≡ true → Sound P t
-sound_is P t e =
-    let (l, r) = and_parts (ltb t.a P && (ltb t.b P && ltb t.c P)) (not (eqb t.a t.b) && (not (eqb t.b t.c) && not (eqb t.c t.a))) e in
-    let (a, l₁) = and_parts (ltb t.a P) (ltb t.b P && ltb t.c P) l in
-    let (b, d) = and_parts (ltb t.b P) (ltb t.c P) l₁ in
-    let (ab, r₁) = and_parts (not (eqb t.a t.b)) (not (eqb t.b t.c) && not (eqb t.c t.a)) r in
-    let (bd, da) = and_parts (not (eqb t.b t.c)) (not (eqb t.c t.a)) r₁ in
-    record {
-      a = ltb-true t.a P a;
-      b = ltb-true t.b P b;
-      c = ltb-true t.c P d;
-      ab = eqb-false t.a t.b (not-true (eqb t.a t.b) ab);
-      bc = eqb-false t.b t.c (not-true (eqb t.b t.c) bd);
-      ca = eqb-false t.c t.a (not-true (eqb t.c t.a) da);
-    }
+sound_is P t e = record {
+  a = grind (arith, nat_tests);
+  b = grind (arith, nat_tests);
+  c = grind (arith, nat_tests);
+  ab = λ q. grind (arith, nat_tests);
+  bc = λ q. grind (arith, nat_tests);
+  ca = λ q. grind (arith, nat_tests);
+}
 
 corner_below : (P : ℕ) (t : Triangle) → Sound P t → (k : ℕ) → corner_of t k < P
 corner_below P t s zero = s.a
@@ -71,16 +65,12 @@ module _ (points : List Point) (triangles : List Triangle) (e : set_fits points 
 
   pub fitting : Fitting
   unfolding set_fits
-  fitting =
-      let (a, r) = and_parts (leb (length points) 65536) (leb (length triangles) 65536 && (list_all near points && list_all (sound (length points)) triangles)) e in
-      let (b, r₁) = and_parts (leb (length triangles) 65536) (list_all near points && list_all (sound (length points)) triangles) r in
-      let (n, s) = and_parts (list_all near points) (list_all (sound (length points)) triangles) r₁ in
-      record {
-        few_points = leb-true (length points) 65536 a;
-        few_triangles = leb-true (length triangles) 65536 b;
-        nears = λ p h. near_is (get_or points p origin) (every_at near points origin n p h);
-        sounds = λ t h. sound_is (length points) (get_or triangles t blank) (every_at (sound (length points)) triangles blank s t h);
-      }
+  fitting = record {
+    few_points = grind (arith, nat_tests);
+    few_triangles = grind (arith, nat_tests);
+    nears = λ p h. near_is (get_or points p origin) (All-get_or (λ q. near q ≡ true) points p origin h (AllPass-from_list_all near points (grind (arith, nat_tests))));
+    sounds = λ t h. sound_is (length points) (get_or triangles t blank) (All-get_or (λ x. sound (length points) x ≡ true) triangles t blank h (AllPass-from_list_all (sound (length points)) triangles (grind (arith, nat_tests))));
+  }
 
   pub start_apart : (h : ℕ) → h / 3 < length triangles → stored_start triangles h ≡ stored_start triangles (next h) → ⊥
   unfolding stored_start
@@ -105,13 +95,13 @@ pub record Listed (points : List Point) (triangles : List Triangle) (twins : Lis
 pub listed : (points : List Point) (triangles : List Triangle) (twins : List ℕ) → lists_fit points triangles twins ≡ true → Listed points triangles twins
 unfolding lists_fit
 listed points triangles twins e =
-    let (s, m) = and_parts (set_fits points triangles) (eqb (length twins) (3 * length triangles)) e in
-    let n = eqb-true (length twins) (3 * length triangles) m in
-    record { set = s; many = n; few = omega (arith, n, (fitting points triangles s).few_triangles) }
+    let s : set_fits points triangles ≡ true = grind (arith, nat_tests) in
+    let n : length twins ≡ 3 * length triangles = grind (arith, nat_tests) in
+    record { set = s; many = n; few = omega (arith, (fitting points triangles s).few_triangles) }
 
 pub lists_from : (points : List Point) (triangles : List Triangle) (twins : List ℕ) → set_fits points triangles ≡ true → length twins ≡ 3 * length triangles → lists_fit points triangles twins ≡ true
 unfolding lists_fit
-lists_from points triangles twins s n = and_from (set_fits points triangles) (eqb (length twins) (3 * length triangles)) s (eq-eqb (length twins) (3 * length triangles) n)
+lists_from points triangles twins s n = grind (arith, nat_tests)
 
 module _ (points : List Point) (triangles : List Triangle) (twins : List ℕ) (e : stored_fits points triangles twins ≡ true) where
   pub record Parts : Type 0 where
@@ -144,21 +134,13 @@ module _ (points : List Point) (triangles : List Triangle) (twins : List ℕ) (e
   start_in h p = corner_below (length points) (get_or triangles (h / 3) blank) ((fitting points triangles parts.set).sounds (h / 3) (ltb-true (h / 3) (length triangles) p)) (h % 3)
 
   value_is : (f g : ℕ) → twin_of f ≡ Some g → (f ≡ g) × (g ≡ no_twin → ⊥)
-  value_is f g q = go (eqb f no_twin) refl
-    where
-      go : (b : Bool) → eqb f no_twin ≡ b → (f ≡ g) × (g ≡ no_twin → ⊥)
-      go true t = let n = cond-true (eqb f no_twin) None (Some f) t in let z : ◌≡◌ {A = ℕ} 0 1 = cc in absurd (omega arith)
-      go false t =
-          let n = cond-false (eqb f no_twin) None (Some f) t in
-          let m : f ≡ g = cc in
-          (m, λ z. eqb-false f no_twin t (m ∙ z))
+  value_is f g q = (grind (arith, nat_tests), λ z. grind (arith, nat_tests))
 
   twin_is : (h g : ℕ) → stored_twin twins h ≡ Some g → (h < length twins) × (get_or twins h 0 ≡ g) × (g ≡ no_twin → ⊥)
-  twin_is h g q = go (ltb h (length twins)) refl
-    where
-      go : (b : Bool) → ltb h (length twins) ≡ b → (h < length twins) × (get_or twins h 0 ≡ g) × (g ≡ no_twin → ⊥)
-      go true t = let (m, n) = value_is (get_or twins h 0) g (sym (cond-true (ltb h (length twins)) (twin_of (get_or twins h 0)) None t) ∙ q) in (ltb-true h (length twins) t, m, n)
-      go false t = let n = cond-false (ltb h (length twins)) (twin_of (get_or twins h 0)) None t in let z : ◌≡◌ {A = ℕ} 0 1 = cc in absurd (omega arith)
+  twin_is h g q =
+      let l : h < length twins = grind (arith, nat_tests) in
+      let v : twin_of (get_or twins h 0) ≡ Some g = grind (arith, nat_tests) in
+      let (m, n) = value_is (get_or twins h 0) g v in (l, m, n)
 
   twins_at : (h g : ℕ) → stored_twin twins h ≡ Some g → Mutual (stored_start triangles) twins h g
   twins_at h g q =
