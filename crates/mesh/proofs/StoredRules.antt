@@ -1,5 +1,5 @@
 -- A stored mesh whose lists fit keeps the rules.
-use Rattle.std.proofs.Common.{◌≡◌, ℕ, zero, suc, ◌+◌, ◌*◌, ◌/◌, ◌%◌, ◌<◌, ◌≤◌, Bool, true, false, not, ◌&&◌, eqb, ltb, leb, ◌⊎◌, List, length, get_or, nat_abs, Some, None, sym, refl, ap, ◌∙◌, subst, inl, inr, arith}
+use Rattle.std.proofs.Common.{◌≡◌, ℕ, zero, suc, ◌+◌, ◌*◌, ◌/◌, ◌%◌, ◌<◌, ◌≤◌, Bool, true, false, not, ◌&&◌, eqb, ltb, leb, ◌≢◌, ◌⊎◌, List, length, get_or, nat_abs, Some, None, sym, refl, ap, ◌∙◌, subst, inl, inr, arith}
 use Rattle.std.proofs.lemmas.List.{get_or_past}
 use Rattle.std.proofs.lemmas.List.Elements.{All-get_or}
 use Rattle.std.proofs.lemmas.List.Sums.{AllPass-from_list_all}
@@ -120,14 +120,13 @@ module _ (points : List Point) (triangles : List Triangle) (twins : List ℕ) (e
       record { set = s.set; many = s.many; few_points = f.few_points; few_triangles = f.few_triangles; keeps = below_at (twin_kept triangles twins) (length twins) k }
 
   near_at : (p : ℕ) → Near (get_or points p origin)
-  near_at p = go (cases_lt p (length points))
-    where
-      go : (p < length points) ⊎ (length points ≤ p) → Near (get_or points p origin)
-      go (inl h) = (fitting points triangles parts.set).nears p h
-      go (inr h) = subst Near (sym (get_or_past points p origin h)) (record { x = omega arith; y = omega arith; z = omega arith })
+  near_at p = elim (cases_lt p (length points)) [
+    inl h ↦ (fitting points triangles parts.set).nears p h
+    | inr h ↦ subst Near (sym (get_or_past points p origin h)) (record { x = omega arith; y = omega arith; z = omega arith })
+  ]
 
   twin_past : (h : ℕ) → ltb (h / 3) (length triangles) ≡ false → stored_twin twins h ≡ None
-  twin_past h a = cond-false (ltb h (length twins)) (twin_of (get_or twins h 0)) None (le-ltb h (length twins) (omega (arith, ltb-false (h / 3) (length triangles) a, parts.many)))
+  twin_past h a = grind (arith, nat_tests, parts.many)
 
   start_in : (h : ℕ) → ltb (h / 3) (length triangles) ≡ true → stored_start triangles h < length points
   unfolding stored_start
@@ -145,23 +144,21 @@ module _ (points : List Point) (triangles : List Triangle) (twins : List ℕ) (e
   twins_at : (h g : ℕ) → stored_twin twins h ≡ Some g → Mutual (stored_start triangles) twins h g
   twins_at h g q =
       let (l, m, n) = twin_is h g q in
-      subst (Mutual (stored_start triangles) twins h) m (go m n (or_cases (eqb (get_or twins h 0) no_twin) (answered triangles twins h (get_or twins h 0)) (parts.keeps h l)))
-    where
-      go : get_or twins h 0 ≡ g → (g ≡ no_twin → ⊥) → (eqb (get_or twins h 0) no_twin ≡ true) ⊎ (answered triangles twins h (get_or twins h 0) ≡ true) → Mutual (stored_start triangles) twins h (get_or twins h 0)
-      go m n (inl t) = absurd (n (sym m ∙ eqb-true (get_or twins h 0) no_twin t))
-      go m n (inr t) =
-          let f = get_or twins h 0 in
-          let (a, r) = and_parts (ltb f (length twins)) (eqb (get_or twins f 0) h && against (stored_start triangles) h f) t in
-          let (b, r₁) = and_parts (eqb (get_or twins f 0) h) (against (stored_start triangles) h f) r in
-          let (d, x) = and_parts (eqb (stored_start triangles f) (stored_start triangles (next h))) (eqb (stored_start triangles (next f)) (stored_start triangles h)) r₁ in
-          record { there = ltb-true f (length twins) a; back = eqb-true (get_or twins f 0) h b; along = eqb-true (stored_start triangles f) (stored_start triangles (next h)) d; against = eqb-true (stored_start triangles (next f)) (stored_start triangles h) x }
+      let f = get_or twins h 0 in
+      let k : answered triangles twins h f ≡ true = grind (arith, nat_tests, parts.keeps h l) in
+      subst (Mutual (stored_start triangles) twins h) m (record {
+        there = grind (arith, nat_tests);
+        back = grind (arith, nat_tests);
+        along = grind (arith, nat_tests);
+        against = grind (arith, nat_tests);
+      })
 
   back_at : (h g : ℕ) → stored_twin twins h ≡ Some g → stored_twin twins g ≡ Some h
   back_at h g q =
       let t = twins_at h g q in
-      let i = (twin_is h g q).0 in
-      let l : h ≡ no_twin → ⊥ = λ z. omega (arith, parts.few_triangles, parts.many) in
-      cond-true (ltb g (length twins)) (twin_of (get_or twins g 0)) None (lt-ltb g (length twins) t.there) ∙ ap twin_of t.back ∙ cond-false (eqb h no_twin) None (Some h) (ne_eqb h no_twin l)
+      let (i, v, n) = twin_is h g q in
+      let l : h ≢ no_twin = λ z. omega (arith, parts.few_triangles, parts.many) in
+      grind (arith, nat_tests)
 
   pub stored_lawful : Lawful (stored points triangles twins)
   stored_lawful = record {
