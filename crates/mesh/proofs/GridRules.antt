@@ -1,6 +1,9 @@
 -- A depth grid keeps the rules; its cells by row and column.
-use Rattle.std.proofs.Common.{◌≡◌, ℕ, zero, suc, ◌+◌, ◌-◌, ◌*◌, ◌/◌, ◌%◌, ◌<◌, ◌≤◌, Bool, true, false, cond, ◌&&◌, eqb, ltb, leb, ◌⊎◌, List, length, get_or, pos, Some, None, Option, sym, refl, ap, ◌∙◌, subst, inl, inr, arith}
+use Rattle.std.proofs.Common.{◌≡◌, ℕ, zero, suc, ◌+◌, ◌-◌, ◌*◌, ◌/◌, ◌%◌, ◌<◌, ◌≤◌, Bool, true, false, cond, ◌&&◌, eqb, ltb, leb, ◌≢◌, ◌⊎◌, List, length, get_or, pos, Some, None, Option, sym, refl, ap, ◌∙◌, subst, inl, inr, arith}
 use Rattle.std.proofs.lemmas.List.{get_or_past}
+use Rattle.std.proofs.lemmas.List.Elements.{All-get_or}
+use Rattle.std.proofs.lemmas.List.Sums.{AllPass-from_list_all}
+use Rattle.std.proofs.lemmas.Bool.Decides.{nat_tests}
 use Rattle.std.proofs.lemmas.Bool.{and_parts, ltb-true, leb-true, eqb-true, eqb-false, le-ltb, lt-ltb, ne_eqb, eq-eqb, and_left, cond-true, cond-false, cases_lt}
 use Rattle.std.proofs.lemmas.Nat.{div-add-mod', mul-le, mul-add-lt, div-mul-add, mod-mul-add, div_below, mod_below}
 use Rattle.mesh.specs.HalfEdges.{next}
@@ -33,17 +36,11 @@ module _ (V : ℕ) (some : 0 < V) where
   right_column c h = ap (λ x. x % V) (right_place c) ∙ mod-mul-add (c / V) V (c % V + 1) h
 
   upper_is : (c d : ℕ) → upper V c ≡ Some d → c ≡ d + V
-  upper_is c d e = go (eqb (c / V) 0) refl
-    where
-      go : (b : Bool) → eqb (c / V) 0 ≡ b → c ≡ d + V
-      go true t = let n : cond (eqb (c / V) 0) None (Some (c - V)) ≡ None = cond-true (eqb (c / V) 0) None (Some (c - V)) t in absurd cc
-      go false t =
-          let n : cond (eqb (c / V) 0) None (Some (c - V)) ≡ Some (c - V) = cond-false (eqb (c / V) 0) None (Some (c - V)) t in
-          let m : c - V ≡ d = cc in
-          let r : c / V ≡ 0 → ⊥ = eqb-false (c / V) 0 t in
-          let l : 1 ≤ c / V = omega arith in
-          let w : 1 * V ≤ c / V * V = mul-le 1 V (c / V) V l (omega arith) in
-          omega (arith, place_back c)
+  upper_is c d e =
+      let r : c / V ≢ 0 = grind (arith, nat_tests) in
+      let m : c - V ≡ d = grind (arith, nat_tests) in
+      let w : 1 * V ≤ c / V * V = mul-le 1 V (c / V) V (omega arith) (omega arith) in
+      omega (arith, place_back c)
 
   upper_from : (d : ℕ) → upper V (d + V) ≡ Some d
   upper_from d = cond-false (eqb ((d + V) / V) 0) None (Some (d + V - V)) (ne_eqb ((d + V) / V) 0 (λ z. omega (arith, down_row d))) ∙ ap Some (omega arith)
@@ -54,34 +51,22 @@ module _ (V : ℕ) (some : 0 < V) where
       ap (λ x. x % V) e ∙ mod-mul-add (d / V + 1) V 0 some
 
   left_is : (c d : ℕ) → left V c ≡ Some d → (c ≡ d + 1) × (d % V + 1 < V)
-  left_is c d e = go (eqb (c % V) 0) refl
-    where
-      go : (b : Bool) → eqb (c % V) 0 ≡ b → (c ≡ d + 1) × (d % V + 1 < V)
-      go true t = let n : cond (eqb (c % V) 0) None (Some (c - 1)) ≡ None = cond-true (eqb (c % V) 0) None (Some (c - 1)) t in absurd cc
-      go false t =
-          let n : cond (eqb (c % V) 0) None (Some (c - 1)) ≡ Some (c - 1) = cond-false (eqb (c % V) 0) None (Some (c - 1)) t in
-          let m : c - 1 ≡ d = cc in
-          let r : c % V ≡ 0 → ⊥ = eqb-false (c % V) 0 t in
-          let l : c ≡ d + 1 = omega (arith, place_back c) in
-          let k : d % V < V = mod_below d V some in
-          let no_last : d % V + 1 ≡ V → ⊥ = λ h. r (ap (λ x. x % V) l ∙ last_column d h) in
-          (l, omega (arith, no_last))
+  left_is c d e =
+      let r : c % V ≢ 0 = grind (arith, nat_tests) in
+      let m : c - 1 ≡ d = grind (arith, nat_tests) in
+      let l : c ≡ d + 1 = omega (arith, place_back c) in
+      let k : d % V < V = mod_below d V some in
+      let no_last : d % V + 1 ≢ V = λ h. r (ap (λ x. x % V) l ∙ last_column d h) in
+      (l, omega (arith, no_last))
 
   left_from : (d : ℕ) → d % V + 1 < V → left V (d + 1) ≡ Some d
   left_from d h = cond-false (eqb ((d + 1) % V) 0) None (Some (d + 1 - 1)) (ne_eqb ((d + 1) % V) 0 (λ z. omega (arith, right_column d h))) ∙ ap Some (omega arith)
 
   right_is : (c d : ℕ) → right V c ≡ Some d → (d ≡ c + 1) × (c % V + 1 < V)
-  right_is c d e = go (ltb (c % V + 1) V) refl
-    where
-      go : (b : Bool) → ltb (c % V + 1) V ≡ b → (d ≡ c + 1) × (c % V + 1 < V)
-      go true t =
-          let n : cond (ltb (c % V + 1) V) (Some (c + 1)) None ≡ Some (c + 1) = cond-true (ltb (c % V + 1) V) (Some (c + 1)) None t in
-          let m : d ≡ c + 1 = cc in
-          (m, ltb-true (c % V + 1) V t)
-      go false t = let n : cond (ltb (c % V + 1) V) (Some (c + 1)) None ≡ None = cond-false (ltb (c % V + 1) V) (Some (c + 1)) None t in absurd cc
+  right_is c d e = (grind (arith, nat_tests), grind (arith, nat_tests))
 
   right_from : (c : ℕ) → c % V + 1 < V → right V c ≡ Some (c + 1)
-  right_from c h = cond-true (ltb (c % V + 1) V) (Some (c + 1)) None (lt-ltb (c % V + 1) V h)
+  right_from c h = grind (arith, nat_tests)
 
 side_of : (o : Option ℕ) (s g : ℕ) → at_side o s ≡ Some g → (d : ℕ) × (o ≡ Some d) × (g ≡ 6 * d + s)
 side_of None s g e = absurd cc
@@ -200,14 +185,13 @@ module _ (V : ℕ) (some : 0 < V) where
       go (suc (suc (suc (suc (suc s))))) w = omega arith
 
 small_at : (xs : List ℕ) → list_all small xs ≡ true → (p : ℕ) → get_or xs p 0 ≤ 10000
-small_at xs e p = go (cases_lt p (length xs))
-  where
-    go : (p < length xs) ⊎ (length xs ≤ p) → get_or xs p 0 ≤ 10000
-    go (inl h) = leb-true (get_or xs p 0) 10000 (every_at small xs 0 e p h)
-    go (inr h) = omega (arith, get_or_past xs p 0 h)
+small_at xs e p = elim (cases_lt p (length xs)) [
+  inl h ↦ leb-true (get_or xs p 0) 10000 (All-get_or (λ x. small x ≡ true) xs p 0 h (AllPass-from_list_all small xs e))
+  | inr h ↦ omega (arith, get_or_past xs p 0 h)
+]
 
 within_parts : (low high n : ℕ) → within low high n ≡ true → (low ≤ n) × (n ≤ high)
-within_parts low high n e = let (a, b) = and_parts (leb low n) (leb n high) e in (leb-true low n a, leb-true n high b)
+within_parts low high n e = (grind (arith, nat_tests), grind (arith, nat_tests))
 
 -- what the settings and readings of a grid keep
 pub record Limits (W H s : ℕ) (readings : List ℕ) : Type 0 where
@@ -224,22 +208,18 @@ pub record Limits (W H s : ℕ) (readings : List ℕ) : Type 0 where
 pub limits : (W H s : ℕ) (readings : List ℕ) → grid_fits W H s readings ≡ true → Limits W H s readings
 unfolding grid_fits
 limits W H s rs e =
-    let (a, e₁) = and_parts (within 2 181 W) (within 2 181 H && (within 1 55 s && (eqb (length rs) (W * H) && list_all small rs))) e in
-    let (b, e₂) = and_parts (within 2 181 H) (within 1 55 s && (eqb (length rs) (W * H) && list_all small rs)) e₁ in
-    let (c, e₃) = and_parts (within 1 55 s) (eqb (length rs) (W * H) && list_all small rs) e₂ in
-    let (d, f) = and_parts (eqb (length rs) (W * H)) (list_all small rs) e₃ in
-    let (w, w₁) = within_parts 2 181 W a in
-    let (h, h₁) = within_parts 2 181 H b in
+    let (w, w₁) = within_parts 2 181 W (grind (arith, nat_tests)) in
+    let (h, h₁) = within_parts 2 181 H (grind (arith, nat_tests)) in
     record {
       wide = w;
       narrow = w₁;
       tall = h;
       low = h₁;
-      close = (within_parts 1 55 s c).1;
+      close = (within_parts 1 55 s (grind (arith, nat_tests))).1;
       cells = mul-le (W - 1) (H - 1) 180 180 (omega arith) (omega arith);
       places = mul-le W H 181 181 w₁ h₁;
-      many = eqb-true (length rs) (W * H) d;
-      small = small_at rs f;
+      many = grind (arith, nat_tests);
+      small = small_at rs (grind (arith, nat_tests));
     }
 
 module _ (W H s : ℕ) (rs : List ℕ) (l : Limits W H s rs) where
@@ -247,13 +227,13 @@ module _ (W H s : ℕ) (rs : List ℕ) (l : Limits W H s rs) where
   some = omega (arith, l.wide)
 
   pub present_below : (t : ℕ) → grid_present W H rs t ≡ true → t < grid_triangles W H
-  present_below t e = ltb-true t (grid_triangles W H) (and_parts (ltb t (grid_triangles W H)) (full (W - 1) rs t) e).0
+  present_below t e = grind (arith, nat_tests)
 
   absent_past : (t : ℕ) → grid_triangles W H ≤ t → grid_present W H rs t ≡ false
-  absent_past t h = and_left (ltb t (grid_triangles W H)) (full (W - 1) rs t) (le-ltb t (grid_triangles W H) h)
+  absent_past t h = grind (arith, nat_tests)
 
   start_of : (h : ℕ) → grid_present W H rs (h / 3) ≡ true → (grid W H s rs).start h ≡ grid_start (W - 1) h
-  start_of h p = cond-true (grid_present W H rs (h / 3)) (grid_start (W - 1) h) 0 p
+  start_of h p = grind (arith, nat_tests)
 
   few : grid_triangles W H ≤ 65536
   few = omega (arith, l.cells)
