@@ -5,11 +5,12 @@ use Rattle.std.proofs.lemmas.List.Elements.{All-get_or}
 use Rattle.std.proofs.lemmas.List.Sums.{AllPass-from_list_all}
 use Rattle.std.proofs.lemmas.Bool.Decides.{nat_tests}
 use Rattle.std.proofs.lemmas.Bool.{and_parts, ltb-true, leb-true, eqb-true, eqb-false, le-ltb, lt-ltb, ne_eqb, eq-eqb, and_left, cond-true, cond-false, cases_lt}
+use Rattle.std.proofs.lemmas.Option.{cond_some}
 use Rattle.std.proofs.lemmas.Nat.{div-add-mod', mul-le, mul-add-lt, div-mul-add, mod-mul-add, div_below, mod_below}
 use Rattle.mesh.specs.HalfEdges.{next}
 use Rattle.mesh.specs.Model.{Lawful, Near, end_of, origin}
 use Rattle.std.specs.List.{list_all}
-use Rattle.mesh.specs.Grid.{point, corner_at, corner, grid_start, upper, left, right, at_side, across, full, grid_triangles, grid_present, grid_place, when_present, grid, small, within, grid_fits, cell, Cells}
+use Rattle.mesh.specs.Grid.{point, corner_at, corner, grid_start, upper, left, right, at_side, across, full, grid_triangles, grid_present, at_place, grid_place, when_present, grid, small, within, grid_fits, cell, Cells}
 use Rattle.mesh.proofs.Every.{every_at}
 
 -- rows and columns of the cells beside a cell
@@ -43,7 +44,7 @@ module _ (V : ℕ) (some : 0 < V) where
       omega (arith, place_back c)
 
   upper_from : (d : ℕ) → upper V (d + V) ≡ Some d
-  upper_from d = cond-false (eqb ((d + V) / V) 0) None (Some (d + V - V)) (ne_eqb ((d + V) / V) 0 (λ z. omega (arith, down_row d))) ∙ ap Some (omega arith)
+  upper_from d = let r : (d + V) / V ≢ 0 = λ z. omega (arith, down_row d) in let e : d + V - V ≡ d = omega arith in grind (arith, nat_tests)
 
   last_column : (d : ℕ) → d % V + 1 ≡ V → (d + 1) % V ≡ 0
   last_column d h =
@@ -60,7 +61,7 @@ module _ (V : ℕ) (some : 0 < V) where
       (l, omega (arith, no_last))
 
   left_from : (d : ℕ) → d % V + 1 < V → left V (d + 1) ≡ Some d
-  left_from d h = cond-false (eqb ((d + 1) % V) 0) None (Some (d + 1 - 1)) (ne_eqb ((d + 1) % V) 0 (λ z. omega (arith, right_column d h))) ∙ ap Some (omega arith)
+  left_from d h = let r : (d + 1) % V ≢ 0 = λ z. omega (arith, right_column d h) in let e : d + 1 - 1 ≡ d = omega arith in grind (arith, nat_tests)
 
   right_is : (c d : ℕ) → right V c ≡ Some d → (d ≡ c + 1) × (c % V + 1 < V)
   right_is c d e = (grind (arith, nat_tests), grind (arith, nat_tests))
@@ -251,16 +252,17 @@ module _ (W H s : ℕ) (rs : List ℕ) (l : Limits W H s rs) where
       let r : p / W < H = div_below p W H (omega (arith, l.wide)) (omega arith) in
       mul-le (p / W) s 180 55 (omega (arith, l.low)) l.close
 
-  near : (p : ℕ) → Near (grid_place W H s rs p)
-  near p = go (ltb p (W * H)) refl
-    where
-      go : (b : Bool) → ltb p (W * H) ≡ b → Near (cond b (record { x = pos (p % W * s); y = pos (p / W * s); z = pos (get_or rs p 0) }) origin)
-      go true e =
-          record { x = omega (arith, column_fits p); y = omega (arith, row_fits p (ltb-true p (W * H) e)); z = l.small p }
-      go false e = record { x = omega arith; y = omega arith; z = omega arith }
-
   far : (p : ℕ) → W * H ≤ p → grid_place W H s rs p ≡ origin
-  far p h = cond-false (ltb p (W * H)) (record { x = pos (p % W * s); y = pos (p / W * s); z = pos (get_or rs p 0) }) origin (le-ltb p (W * H) h)
+  far p h = grind (arith, nat_tests)
+
+  place_of : (p : ℕ) → p < W * H → grid_place W H s rs p ≡ at_place (p % W * s) (p / W * s) (get_or rs p 0)
+  place_of p h = grind (arith, nat_tests)
+
+  near : (p : ℕ) → Near (grid_place W H s rs p)
+  near p = elim (cases_lt p (W * H)) [
+    inl h ↦ subst Near (sym (place_of p h)) (record { x = omega (arith, column_fits p); y = omega (arith, row_fits p h); z = l.small p })
+    | inr h ↦ subst Near (sym (far p h)) (record { x = omega arith; y = omega arith; z = omega arith })
+  ]
 
   pub corner_inside : (h : ℕ) → h < 3 * grid_triangles W H → grid_start (W - 1) h < W * H
   corner_inside h t =
@@ -288,25 +290,15 @@ module _ (W H s : ℕ) (rs : List ℕ) (l : Limits W H s rs) where
 
   twins_when : (h g : ℕ) (o : Option ℕ) → grid_present W H rs (h / 3) ≡ true → across (W - 1) (h / 6) (h % 6) ≡ o → when_present (grid_present W H rs) o ≡ Some g → Twins h g
   twins_when h g None p a e = absurd cc
-  twins_when h g (Some f) p a e = go (grid_present W H rs (f / 3)) refl
-    where
-      go : (b : Bool) → grid_present W H rs (f / 3) ≡ b → Twins h g
-      go true q =
-          let n = cond-true (grid_present W H rs (f / 3)) (Some f) None q in
-          let m : f ≡ g = cc in
-          record { here = p; there = ap (λ x. grid_present W H rs (x / 3)) (sym m) ∙ q; beside = a ∙ ap Some m }
-      go false q =
-          let n = cond-false (grid_present W H rs (f / 3)) (Some f) None q in
-          absurd cc
+  twins_when h g (Some f) p a e =
+      let (q, m) = cond_some (grid_present W H rs (f / 3)) f g e in
+      record { here = p; there = ap (λ x. grid_present W H rs (x / 3)) (sym m) ∙ q; beside = a ∙ ap Some m }
 
   twins_of : (h g : ℕ) → (grid W H s rs).twin h ≡ Some g → Twins h g
-  twins_of h g e = go (grid_present W H rs (h / 3)) refl
-    where
-      go : (b : Bool) → grid_present W H rs (h / 3) ≡ b → Twins h g
-      go true p = twins_when h g (across (W - 1) (h / 6) (h % 6)) p refl (sym (cond-true (grid_present W H rs (h / 3)) (when_present (grid_present W H rs) (across (W - 1) (h / 6) (h % 6))) None p) ∙ e)
-      go false p =
-          let n = cond-false (grid_present W H rs (h / 3)) (when_present (grid_present W H rs) (across (W - 1) (h / 6) (h % 6))) None p in
-          absurd cc
+  twins_of h g e =
+      let p : grid_present W H rs (h / 3) ≡ true = grind (arith, nat_tests) in
+      let w : when_present (grid_present W H rs) (across (W - 1) (h / 6) (h % 6)) ≡ Some g = grind (arith, nat_tests) in
+      twins_when h g (across (W - 1) (h / 6) (h % 6)) p refl w
 
   twins_from : (h g : ℕ) → Twins h g → (grid W H s rs).twin h ≡ Some g
   twins_from h g t =
