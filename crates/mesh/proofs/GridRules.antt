@@ -302,9 +302,9 @@ module _ (W H s : ℕ) (rs : List ℕ) (l : Limits W H s rs) where
 
   twins_from : (h g : ℕ) → Twins h g → (grid W H s rs).twin h ≡ Some g
   twins_from h g t =
-      cond-true (grid_present W H rs (h / 3)) (when_present (grid_present W H rs) (across (W - 1) (h / 6) (h % 6))) None t.here
-      ∙ ap (when_present (grid_present W H rs)) t.beside
-      ∙ cond-true (grid_present W H rs (g / 3)) (Some g) None t.there
+      let w : when_present (grid_present W H rs) (Some g) ≡ Some g = grind (arith, nat_tests, t.there) in
+      let a = t.beside in
+      grind (arith, nat_tests, t.here)
 
   back : (h g : ℕ) → (grid W H s rs).twin h ≡ Some g → (grid W H s rs).twin g ≡ Some h
   back h g e =
@@ -323,8 +323,8 @@ module _ (W H s : ℕ) (rs : List ℕ) (l : Limits W H s rs) where
     near = near;
     far = far;
     absent_above = absent_past;
-    absent_start = λ h a. cond-false (grid_present W H rs (h / 3)) (grid_start (W - 1) h) 0 a;
-    absent_twin = λ h a. cond-false (grid_present W H rs (h / 3)) (when_present (grid_present W H rs) (across (W - 1) (h / 6) (h % 6))) None a;
+    absent_start = λ h a. grind (arith, nat_tests);
+    absent_twin = λ h a. grind (arith, nat_tests);
     corner = corner_in;
     apart = apart;
     back = back;
@@ -349,11 +349,11 @@ cells = record {
   above = λ V r c l.
       let e : cell V (r + 1) c ≡ cell V r c + V = omega arith in
       ap (λ x. at_side (upper V x) 3) e ∙ ap (λ o. at_side o 3) (upper_from V (omega arith) (cell V r c));
-  top = λ V c l. ap (λ o. at_side o 3) (cond-true (eqb (cell V 0 c / V) 0) None (Some (cell V 0 c - V)) (eq-eqb (cell V 0 c / V) 0 (row V 0 c l)));
+  top = λ V c l. let e = row V 0 c l in let n : upper V (cell V 0 c) ≡ None = grind (arith, nat_tests) in ap (λ o. at_side o 3) n;
   own = λ V r c. refl;
   beside = λ V r c l.
       let e : cell V r (c + 1) ≡ cell V r c + 1 = omega arith in
       let k : cell V r c % V + 1 < V = omega (arith, column V r c (omega arith)) in
       ap (λ x. at_side (left V x) 5) e ∙ ap (λ o. at_side o 5) (left_from V (omega arith) (cell V r c) k);
-  edge = λ V r l. ap (λ o. at_side o 5) (cond-true (eqb (cell V r 0 % V) 0) None (Some (cell V r 0 - 1)) (eq-eqb (cell V r 0 % V) 0 (column V r 0 l)));
+  edge = λ V r l. let e = column V r 0 l in let n : left V (cell V r 0) ≡ None = grind (arith, nat_tests) in ap (λ o. at_side o 5) n;
 }

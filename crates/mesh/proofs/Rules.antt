@@ -1,6 +1,6 @@
 -- What follows from the rules of a mesh, and how next goes round a triangle.
 use Rattle.std.proofs.Common.{◌≡◌, ℕ, ◌*◌, ◌/◌, ◌<◌, ◌≤◌, Bool, true, false, ◌⊎◌, Some, None, sym, refl, ap, ◌∙◌, inl, inr, arith}
-use Rattle.std.proofs.lemmas.Bool.{cases_lt, cases_eq}
+use Rattle.std.proofs.lemmas.Bool.{cases_eq, true_from_ne_false}
 use Rattle.mesh.specs.HalfEdges.{next, Turns}
 use Rattle.mesh.specs.Model.{MeshModel, Lawful, TwinsStand}
 
@@ -15,18 +15,10 @@ turns = record {
 
 module _ (m : MeshModel) (l : Lawful m) where
   pub twin_present : (h g : ℕ) → m.twin h ≡ Some g → m.present (h / 3) ≡ true
-  twin_present h g e = go (m.present (h / 3)) refl
-    where
-      go : (b : Bool) → m.present (h / 3) ≡ b → m.present (h / 3) ≡ true
-      go true p = p
-      go false p = let a = l.absent_twin h p in absurd cc
+  twin_present h g e = true_from_ne_false (m.present (h / 3)) (λ p. let a = l.absent_twin h p in absurd cc)
 
   pub present_below : (t : ℕ) → m.present t ≡ true → t < m.triangles
-  present_below t p = go (cases_lt t m.triangles)
-    where
-      go : (t < m.triangles) ⊎ (m.triangles ≤ t) → t < m.triangles
-      go (inl h) = h
-      go (inr h) = let a = l.absent_above t h in absurd cc
+  present_below t p = grind (arith, l.absent_above t)
 
   pub twin_inside : (h g : ℕ) → m.twin h ≡ Some g → g < 3 * m.triangles
   twin_inside h g e = omega (arith, present_below (g / 3) (twin_present g h (l.back h g e)))
