@@ -1,7 +1,8 @@
 -- Lists that fit before pairing make a stored mesh after it, and no pair is left.
 use Rattle.std.proofs.Common.{◌≡◌, ℕ, ◌+◌, ◌-◌, ◌*◌, ◌<◌, ◌≤◌, Bool, true, false, ◌&&◌, ◌||◌, eqb, ltb, ◌⊎◌, List, length, get_or, Some, refl, ◌∙◌, inl, inr, arith}
 use Rattle.std.proofs.lemmas.List.{get_or_past}
-use Rattle.std.proofs.lemmas.Bool.{and_from, or_left, or_right, eq-eqb, lt-ltb, eqb-false, eqb-true, cases_lt}
+use Rattle.std.proofs.lemmas.Bool.Decides.{nat_tests}
+use Rattle.std.proofs.lemmas.Bool.{and_from, or_left, or_right, eq-eqb, lt-ltb, eqb-false, eqb-true, cases_lt, cases_eq}
 use Rattle.mesh.specs.declared.Point.{Point}
 use Rattle.mesh.specs.declared.Triangle.{Triangle}
 use Rattle.mesh.specs.HalfEdges.{next}
@@ -9,21 +10,17 @@ use Rattle.mesh.specs.Every.{every_below}
 use Rattle.mesh.specs.Stored.{no_twin, against, answered, twin_kept, set_fits, lists_fit, stored_fits, stored_start}
 use Rattle.mesh.specs.Pairing.{Apart, free, suits, mate, pair_below, pairing, PairsStand, MatesAbove, NoneLeft}
 use Rattle.mesh.proofs.Every.{below_from}
-use Rattle.mesh.proofs.StoredRules.{fitting, lists_from, start_apart}
+use Rattle.mesh.proofs.StoredRules.{Mutual, fitting, lists_from, start_apart}
 use Rattle.mesh.proofs.PairingRules.{TwinRule, length_below, below_keeps, settled, hunt_above, lowest_is}
 
+named : (triangles : List Triangle) (twins : List ℕ) (h g : ℕ) → Mutual (stored_start triangles) twins h g → answered triangles twins h g ≡ true
+named triangles twins h g m = grind (arith, nat_tests)
+
 kept : (triangles : List Triangle) (twins : List ℕ) → TwinRule (stored_start triangles) twins → (h : ℕ) → h < length twins → twin_kept triangles twins h ≡ true
-kept triangles twins rule h l = go (eqb (get_or twins h 0) no_twin) refl
-  where
-    go : (b : Bool) → eqb (get_or twins h 0) no_twin ≡ b → (eqb (get_or twins h 0) no_twin || answered triangles twins h (get_or twins h 0)) ≡ true
-    go true e = or_left (eqb (get_or twins h 0) no_twin) (answered triangles twins h (get_or twins h 0)) e
-    go false e =
-        let f = get_or twins h 0 in
-        let m = rule h l (eqb-false (get_or twins h 0) no_twin e) in
-        or_right (eqb f no_twin) (answered triangles twins h f)
-        (and_from (ltb f (length twins)) (eqb (get_or twins f 0) h && against (stored_start triangles) h f) (lt-ltb f (length twins) m.there)
-        (and_from (eqb (get_or twins f 0) h) (against (stored_start triangles) h f) (eq-eqb (get_or twins f 0) h m.back)
-        (and_from (eqb (stored_start triangles f) (stored_start triangles (next h))) (eqb (stored_start triangles (next f)) (stored_start triangles h)) (eq-eqb (stored_start triangles f) (stored_start triangles (next h)) m.along) (eq-eqb (stored_start triangles (next f)) (stored_start triangles h) m.against))))
+kept triangles twins rule h l = elim (cases_eq (get_or twins h 0) no_twin) [
+  inl e ↦ grind (arith, nat_tests)
+  | inr e ↦ or_right (eqb (get_or twins h 0) no_twin) (answered triangles twins h (get_or twins h 0)) (named triangles twins h (get_or twins h 0) (rule h l e))
+]
 
 module _ (points : List Point) (triangles : List Triangle) (e : set_fits points triangles ≡ true) where
   pub few : 3 * length triangles ≤ 196608

@@ -1,7 +1,8 @@
 -- The paired list keeps the rule of twins, turn by turn, and leaves no two half-edges that could be paired.
 use Rattle.std.proofs.Common.{◌≡◌, ℕ, zero, suc, ◌+◌, ◌-◌, ◌<◌, ◌≤◌, Bool, true, false, cond, ◌&&◌, eqb, ◌≢◌, ◌⊎◌, List, length, get_or, set, Some, None, Option, sym, refl, ap, ◌∙◌, subst, inl, inr, add-one, arith}
 use Rattle.std.proofs.lemmas.List.{length-set, length-replicate, get_or-replicate, get_or-set_same, get_or-set_other, get_or_past}
-use Rattle.std.proofs.lemmas.Bool.{and_parts, and_from, and_cases, and_left, and_right, both_ways, eqb-true, eqb-false, eq-eqb, ne_eqb, cases_eq, cases_lt, cond-true, cond-false}
+use Rattle.std.proofs.lemmas.Bool.Decides.{nat_tests}
+use Rattle.std.proofs.lemmas.Bool.{cases_Bool, and_parts, and_from, and_cases, and_left, and_right, both_ways, eqb-true, eqb-false, eq-eqb, ne_eqb, cases_eq, cases_lt, cond-true, cond-false}
 use Rattle.mesh.specs.HalfEdges.{next}
 use Rattle.mesh.specs.Stored.{no_twin, against}
 use Rattle.mesh.proofs.StoredRules.{Mutual}
@@ -13,21 +14,26 @@ TwinRule start twins = (h : ℕ) → h < length twins → (get_or twins h 0 ≡ 
 -- the lowest that passes, passes and lies in the range
 pub lowest_is : (test : ℕ → Bool) (count k g : ℕ) → lowest test count k ≡ Some g → (test g ≡ true) × (k ≤ g) × (g < k + count)
 lowest_is test zero k g e = absurd cc
-lowest_is test (suc count) k g e = go (lowest_is test count (k + 1) g) (test k) refl e
-  where
-    go : (lowest test count (k + 1) ≡ Some g → (test g ≡ true) × (k + 1 ≤ g) × (g < k + 1 + count)) → (b : Bool) → test k ≡ b → cond b (Some k) (lowest test count (k + 1)) ≡ Some g → (test g ≡ true) × (k ≤ g) × (g < k + suc count)
-    go rest true t e = let q : k ≡ g = cc in (ap test (sym q) ∙ t, omega arith, omega arith)
-    go rest false t e = let (a, b, d) = rest e in (a, omega arith, omega arith)
+lowest_is test (suc count) k g e = elim (cases_Bool (test k)) [
+  inl t ↦ let q : k ≡ g = grind (arith, nat_tests) in (ap test (sym q) ∙ t, omega arith, omega arith)
+  | inr t ↦ let (a, b, d) = lowest_is test count (k + 1) g (grind (arith, nat_tests)) in (a, omega arith, omega arith)
+]
 
 suits_is : (start : ℕ → ℕ) (twins : List ℕ) (h g : ℕ) → suits start twins h g ≡ true → (get_or twins g 0 ≡ no_twin) × (start g ≡ start (next h)) × (start (next g) ≡ start h)
-suits_is start twins h g e =
-    let (f, a) = and_parts (free twins g) (against start h g) e in
-    let (p, q) = and_parts (eqb (start g) (start (next h))) (eqb (start (next g)) (start h)) a in
-    (eqb-true (get_or twins g 0) no_twin f, eqb-true (start g) (start (next h)) p, eqb-true (start (next g)) (start h) q)
+suits_is start twins h g e = (grind (arith, nat_tests), grind (arith, nat_tests), grind (arith, nat_tests))
 
 pub mate_is : (start : ℕ → ℕ) (twins : List ℕ) (h g : ℕ) → mate start twins h ≡ Some g → (suits start twins h g ≡ true) × (g < length twins)
 unfolding mate
 mate_is start twins h g e = let (a, b, d) = lowest_is (suits start twins h) (length twins) 0 g e in (a, omega arith)
+
+-- a turn, by whether its half-edge has a twin
+pub paired_before : (start : ℕ → ℕ) (twins : List ℕ) (h : ℕ) → (get_or twins h 0 ≡ no_twin → ⊥) → twins ≡ pair_one start twins h
+unfolding pair_one
+paired_before start twins h n = grind (arith, nat_tests)
+
+pub paired_as : (start : ℕ → ℕ) (twins : List ℕ) (h : ℕ) (o : Option ℕ) → get_or twins h 0 ≡ no_twin → mate start twins h ≡ o → joined twins h o ≡ pair_one start twins h
+unfolding pair_one
+paired_as start twins h o f e = grind (arith, nat_tests)
 
 module _ (start : ℕ → ℕ) (n : ℕ) (apart : Apart start n) where
   -- two free half-edges that run against each other are joined
@@ -94,12 +100,10 @@ module _ (start : ℕ → ℕ) (n : ℕ) (apart : Apart start n) where
     joined_keeps h hl hf (Some g) e = let (s, l) = mate_is start twins h g e in join_keeps h g hl l hf s
 
     one_keeps : (h : ℕ) → h < length twins → TwinRule start (pair_one start twins h)
-    unfolding pair_one
-    one_keeps h hl = go (free twins h) refl
-      where
-        go : (b : Bool) → free twins h ≡ b → TwinRule start (cond b (joined twins h (mate start twins h)) twins)
-        go true e = joined_keeps h hl (eqb-true (get_or twins h 0) no_twin e) (mate start twins h) refl
-        go false e = rule
+    one_keeps h hl = elim (cases_eq (get_or twins h 0) no_twin) [
+      inl e ↦ subst (TwinRule start) (paired_as start twins h (mate start twins h) e refl) (joined_keeps h hl e (mate start twins h) refl)
+      | inr e ↦ subst (TwinRule start) (paired_before start twins h e) rule
+    ]
 
   pub length_one : (twins : List ℕ) (h : ℕ) → length (pair_one start twins h) ≡ length twins
   unfolding pair_one
@@ -125,24 +129,16 @@ pub lowest_more : (test : ℕ → Bool) (n g : ℕ) → g < n → lowest test (n
 lowest_more test n g h = let e : n - g ≡ suc (n - (g + 1)) = omega arith in ap (λ c. lowest test c g) e
 
 pub lowest_found : (test : ℕ → Bool) (n g : ℕ) (o : Option ℕ) → g < n → test g ≡ true → lowest test (n - g) g ≡ o → Some g ≡ o
-lowest_found test n g o h t e = sym (cond-true (test g) (Some g) (lowest test (n - (g + 1)) (g + 1)) t) ∙ sym (lowest_more test n g h) ∙ e
+lowest_found test n g o h t e = let m = lowest_more test n g h in grind (arith, nat_tests)
 
 pub lowest_past : (test : ℕ → Bool) (n g : ℕ) (o : Option ℕ) → g < n → test g ≡ false → lowest test (n - g) g ≡ o → lowest test (n - (g + 1)) (g + 1) ≡ o
-lowest_past test n g o h t e = sym (cond-false (test g) (Some g) (lowest test (n - (g + 1)) (g + 1)) t) ∙ sym (lowest_more test n g h) ∙ e
+lowest_past test n g o h t e = let m = lowest_more test n g h in grind (arith, nat_tests)
 
 pub lowest_none : (test : ℕ → Bool) (n g : ℕ) (o : Option ℕ) → n ≤ g → lowest test (n - g) g ≡ o → None ≡ o
 lowest_none test n g o h e = let z : n - g ≡ 0 = omega arith in sym (ap (λ c. lowest test c g) z) ∙ e
 
 pub below_more : (start : ℕ → ℕ) (n k : ℕ) (old new : List ℕ) → old ≡ pair_below start n k → new ≡ pair_one start old k → new ≡ pair_below start n (k + 1)
 below_more start n k old new e f = f ∙ ap (λ t. pair_one start t k) e ∙ ap (pair_below start n) (sym (add-one k))
-
-pub paired_before : (start : ℕ → ℕ) (twins : List ℕ) (h : ℕ) → (get_or twins h 0 ≡ no_twin → ⊥) → twins ≡ pair_one start twins h
-unfolding pair_one
-paired_before start twins h n = sym (cond-false (free twins h) (joined twins h (mate start twins h)) twins (ne_eqb (get_or twins h 0) no_twin n))
-
-pub paired_as : (start : ℕ → ℕ) (twins : List ℕ) (h : ℕ) (o : Option ℕ) → get_or twins h 0 ≡ no_twin → mate start twins h ≡ o → joined twins h o ≡ pair_one start twins h
-unfolding pair_one
-paired_as start twins h o f e = sym (cond-true (free twins h) (joined twins h (mate start twins h)) twins (eq-eqb (get_or twins h 0) no_twin f) ∙ ap (joined twins h) e)
 
 pub paired_now : (start : ℕ → ℕ) (twins : List ℕ) (h g : ℕ) → get_or twins h 0 ≡ no_twin → mate start twins h ≡ Some g → set (set twins h g) g h ≡ pair_one start twins h
 paired_now start twins h g f e = paired_as start twins h (Some g) f e
@@ -169,32 +165,23 @@ lowest_skip test (suc count) k g a b f = go (lowest_skip test count (k + 1) g) (
 -- none passes
 lowest_all : (test : ℕ → Bool) (count k : ℕ) → lowest test count k ≡ None → (x : ℕ) → k ≤ x → x < k + count → test x ≡ false
 lowest_all test zero k e x p q = absurd (omega arith)
-lowest_all test (suc count) k e x p q = go (lowest_all test count (k + 1)) (test k) refl (cases_eq k x)
-  where
-    go : (lowest test count (k + 1) ≡ None → (x : ℕ) → k + 1 ≤ x → x < k + 1 + count → test x ≡ false) → (b : Bool) → test k ≡ b → (k ≡ x) ⊎ (k ≡ x → ⊥) → test x ≡ false
-    go rest true t o = let n = cond-true (test k) (Some k) (lowest test count (k + 1)) t in absurd cc
-    go rest false t (inl o) = ap test (sym o) ∙ t
-    go rest false t (inr o) = rest (sym (cond-false (test k) (Some k) (lowest test count (k + 1)) t) ∙ e) x (omega arith) (omega arith)
+lowest_all test (suc count) k e x p q =
+    let n : test k ≡ false = grind (arith, nat_tests) in
+    let r : lowest test count (k + 1) ≡ None = grind (arith, nat_tests) in
+    elim (cases_eq k x) [
+      inl o ↦ ap test (sym o) ∙ n
+      | inr o ↦ lowest_all test count (k + 1) r x (omega arith) (omega arith)
+    ]
 
 mate_none : (start : ℕ → ℕ) (twins : List ℕ) (h : ℕ) → mate start twins h ≡ None → lowest (suits start twins h) (length twins) 0 ≡ None
 unfolding mate
 mate_none start twins h e = e
 
 against_itself : (start : ℕ → ℕ) (h : ℕ) → (start h ≡ start (next h) → ⊥) → against start h h ≡ false
-against_itself start h d = and_left (eqb (start h) (start (next h))) (eqb (start (next h)) (start h)) (ne_eqb (start h) (start (next h)) d)
+against_itself start h d = grind (arith, nat_tests)
 
 against_turned : (start : ℕ → ℕ) (h g : ℕ) → against start g h ≡ false → against start h g ≡ false
-against_turned start h g e = go (eqb (start g) (start (next h))) (eqb (start (next g)) (start h)) refl refl
-  where
-    go : (a b : Bool) → eqb (start g) (start (next h)) ≡ a → eqb (start (next g)) (start h) ≡ b → (a && b) ≡ false
-    go false b p q = refl
-    go true false p q = refl
-    go true true p q =
-        let t : (eqb (start h) (start (next g)) && eqb (start (next h)) (start g)) ≡ true =
-        and_from (eqb (start h) (start (next g))) (eqb (start (next h)) (start g))
-        (eq-eqb (start h) (start (next g)) (sym (eqb-true (start (next g)) (start h) q)))
-        (eq-eqb (start (next h)) (start g) (sym (eqb-true (start g) (start (next h)) p))) in
-        absurd (both_ways (eqb (start h) (start (next g)) && eqb (start (next h)) (start g)) e t)
+against_turned start h g e = grind (arith, nat_tests)
 
 module _ (start : ℕ → ℕ) (n : ℕ) (few : n ≤ 196608) (apart : Apart start n) where
   -- a turn leaves no half-edge free that had a twin
