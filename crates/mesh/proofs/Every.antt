@@ -3,7 +3,11 @@ use Rattle.std.proofs.Common.{◌≡◌, ℕ, zero, suc, ◌+◌, ◌<◌, ◌�
 use Rattle.std.specs.List.{range_with_len, list_all}
 use Rattle.std.proofs.lemmas.List.FromFn.{length-range_with_len, get_or-range_with_len}
 use Rattle.std.proofs.lemmas.List.{at_drop_more, at_drop_all}
-use Rattle.std.proofs.lemmas.Bool.{and_parts, and_from, and_left}
+use Rattle.std.proofs.lemmas.List.Elements.{All-get_or, All-from_get_or, All-weaker}
+use Rattle.std.proofs.lemmas.List.Folds.{list_all-append}
+use Rattle.std.proofs.lemmas.List.Sums.{AllPass-from_list_all, list_all-from_AllPass}
+use Rattle.std.proofs.lemmas.Bool.{and_left}
+use Rattle.std.proofs.lemmas.Bool.Decides.{nat_tests}
 use Rattle.mesh.specs.Every.{every_below}
 
 module _ {A : Type 0} (test : A → Bool) where
@@ -20,23 +24,11 @@ module _ {A : Type 0} (test : A → Bool) where
   pub every_end : (xs : List A) (i : ℕ) → length xs ≤ i → list_all test (drop i xs) ≡ list_all test xs → true ≡ list_all test xs
   every_end xs i h e = sym (at_drop_all (list_all test) xs i h) ∙ e
 
-  -- at each place, and from each place
-  pub every_at : (xs : List A) (d : A) → list_all test xs ≡ true → (i : ℕ) → i < length xs → test (get_or xs i d) ≡ true
-  every_at [] d e i l = absurd (omega arith)
-  every_at (x ∷ xs) d e zero l = (and_parts (test x) (list_all test xs) e).0
-  every_at (x ∷ xs) d e (suc i) l = every_at xs d (and_parts (test x) (list_all test xs) e).1 i (omega arith)
-
-  pub every_from : (xs : List A) (d : A) → ((i : ℕ) → i < length xs → test (get_or xs i d) ≡ true) → list_all test xs ≡ true
-  every_from [] d f = refl
-  every_from (x ∷ xs) d f = and_from (test x) (list_all test xs) (f 0 (omega arith)) (every_from xs d (λ i l. f (suc i) (omega arith)))
-
   pub every_push : (xs : List A) (x : A) → list_all test xs ≡ true → test x ≡ true → list_all test (xs ++ x ∷ []) ≡ true
-  every_push [] x e t = and_from (test x) true t refl
-  every_push (y ∷ xs) x e t = let (a, b) = and_parts (test y) (list_all test xs) e in and_from (test y) (list_all test (xs ++ x ∷ [])) a (every_push xs x b t)
+  every_push xs x e t = list_all-append test xs (x ∷ []) ∙ grind (arith, nat_tests)
 
   pub every_weaker : (other : A → Bool) → ((x : A) → test x ≡ true → other x ≡ true) → (xs : List A) → list_all test xs ≡ true → list_all other xs ≡ true
-  every_weaker other f [] e = refl
-  every_weaker other f (x ∷ xs) e = let (a, b) = and_parts (test x) (list_all test xs) e in and_from (other x) (list_all other xs) (f x a) (every_weaker other f xs b)
+  every_weaker other f xs e = list_all-from_AllPass other xs (All-weaker (λ x. test x ≡ true) (λ x. other x ≡ true) f xs (AllPass-from_list_all test xs e))
 
 module _ (test : ℕ → Bool) where
   number : (n i : ℕ) → i < n → test (get_or (range_with_len 0 n) i 0) ≡ test i
@@ -55,7 +47,7 @@ module _ (test : ℕ → Bool) where
   below_end n i l e = every_end test (range_with_len 0 n) i (omega (arith, length-range_with_len 0 n)) e
 
   pub below_at : (n : ℕ) → every_below test n ≡ true → (i : ℕ) → i < n → test i ≡ true
-  below_at n e i l = sym (number n i l) ∙ every_at test (range_with_len 0 n) 0 e i (inside n i l)
+  below_at n e i l = sym (number n i l) ∙ All-get_or (λ x. test x ≡ true) (range_with_len 0 n) i 0 (inside n i l) (AllPass-from_list_all test (range_with_len 0 n) e)
 
   pub below_from : (n : ℕ) → ((i : ℕ) → i < n → test i ≡ true) → every_below test n ≡ true
-  below_from n f = every_from test (range_with_len 0 n) 0 (λ i l. let m : i < n = omega (arith, length-range_with_len 0 n) in number n i m ∙ f i m)
+  below_from n f = list_all-from_AllPass test (range_with_len 0 n) (All-from_get_or (λ x. test x ≡ true) (range_with_len 0 n) 0 (λ i l. let m : i < n = omega (arith, length-range_with_len 0 n) in number n i m ∙ f i m))

@@ -1,17 +1,16 @@
 -- A depth grid keeps the rules; its cells by row and column.
-use Rattle.std.proofs.Common.{◌≡◌, ℕ, zero, suc, ◌+◌, ◌-◌, ◌*◌, ◌/◌, ◌%◌, ◌<◌, ◌≤◌, Bool, true, false, cond, ◌&&◌, eqb, ltb, leb, ◌≢◌, ◌⊎◌, List, length, get_or, pos, Some, None, Option, sym, refl, ap, ◌∙◌, subst, inl, inr, arith}
+use Rattle.std.proofs.Common.{◌≡◌, ℕ, zero, suc, ◌+◌, ◌-◌, ◌*◌, ◌/◌, ◌%◌, ◌<◌, ◌≤◌, true, false, ◌≢◌, List, length, get_or, Some, None, Option, sym, refl, ap, ◌∙◌, subst, inl, inr, arith}
 use Rattle.std.proofs.lemmas.List.{get_or_past}
 use Rattle.std.proofs.lemmas.List.Elements.{All-get_or}
 use Rattle.std.proofs.lemmas.List.Sums.{AllPass-from_list_all}
 use Rattle.std.proofs.lemmas.Bool.Decides.{nat_tests}
-use Rattle.std.proofs.lemmas.Bool.{and_parts, ltb-true, leb-true, eqb-true, eqb-false, le-ltb, lt-ltb, ne_eqb, eq-eqb, and_left, cond-true, cond-false, cases_lt}
+use Rattle.std.proofs.lemmas.Bool.{leb-true, cases_lt}
 use Rattle.std.proofs.lemmas.Option.{cond_some}
 use Rattle.std.proofs.lemmas.Nat.{div-add-mod', mul-le, mul-add-lt, div-mul-add, mod-mul-add, div_below, mod_below}
 use Rattle.mesh.specs.HalfEdges.{next}
 use Rattle.mesh.specs.Model.{Lawful, Near, end_of, origin}
 use Rattle.std.specs.List.{list_all}
-use Rattle.mesh.specs.Grid.{point, corner_at, corner, grid_start, upper, left, right, at_side, across, full, grid_triangles, grid_present, at_place, grid_place, when_present, grid, small, within, grid_fits, cell, Cells}
-use Rattle.mesh.proofs.Every.{every_at}
+use Rattle.mesh.specs.Grid.{point, corner_at, corner, grid_start, upper, left, right, at_side, across, grid_triangles, grid_present, at_place, grid_place, when_present, grid, small, within, grid_fits, cell, Cells}
 
 -- rows and columns of the cells beside a cell
 module _ (V : ℕ) (some : 0 < V) where

@@ -1,11 +1,10 @@
 -- Lists that fit before pairing make a stored mesh after it, and no pair is left.
-use Rattle.std.proofs.Common.{◌≡◌, ℕ, ◌+◌, ◌-◌, ◌*◌, ◌<◌, ◌≤◌, Bool, true, false, ◌&&◌, ◌||◌, eqb, ltb, ◌⊎◌, List, length, get_or, Some, refl, ◌∙◌, inl, inr, arith}
+use Rattle.std.proofs.Common.{◌≡◌, ℕ, ◌+◌, ◌-◌, ◌*◌, ◌<◌, ◌≤◌, true, false, eqb, ◌⊎◌, List, length, get_or, Some, refl, ◌∙◌, inl, inr, arith}
 use Rattle.std.proofs.lemmas.List.{get_or_past}
 use Rattle.std.proofs.lemmas.Bool.Decides.{nat_tests}
-use Rattle.std.proofs.lemmas.Bool.{and_from, or_left, or_right, eq-eqb, lt-ltb, eqb-false, eqb-true, cases_lt, cases_eq}
+use Rattle.std.proofs.lemmas.Bool.{and_from, or_right, eqb-true, cases_lt, cases_eq}
 use Rattle.mesh.specs.declared.Point.{Point}
 use Rattle.mesh.specs.declared.Triangle.{Triangle}
-use Rattle.mesh.specs.HalfEdges.{next}
 use Rattle.mesh.specs.Every.{every_below}
 use Rattle.mesh.specs.Stored.{no_twin, against, answered, twin_kept, set_fits, lists_fit, stored_fits, stored_start}
 use Rattle.mesh.specs.Pairing.{Apart, free, suits, mate, pair_below, pairing, PairsStand, MatesAbove, NoneLeft}

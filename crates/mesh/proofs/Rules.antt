@@ -1,5 +1,5 @@
 -- What follows from the rules of a mesh, and how next goes round a triangle.
-use Rattle.std.proofs.Common.{◌≡◌, ℕ, ◌*◌, ◌/◌, ◌<◌, ◌≤◌, Bool, true, false, ◌⊎◌, Some, None, sym, refl, ap, ◌∙◌, inl, inr, arith}
+use Rattle.std.proofs.Common.{◌≡◌, ℕ, ◌*◌, ◌/◌, ◌<◌, ◌≤◌, true, ◌⊎◌, Some, None, sym, ap, ◌∙◌, inl, inr, arith}
 use Rattle.std.proofs.lemmas.Bool.{cases_eq, true_from_ne_false}
 use Rattle.mesh.specs.HalfEdges.{next, Turns}
 use Rattle.mesh.specs.Model.{MeshModel, Lawful, TwinsStand}

@@ -1,17 +1,16 @@
 -- A stored mesh whose lists fit keeps the rules.
-use Rattle.std.proofs.Common.{◌≡◌, ℕ, zero, suc, ◌+◌, ◌*◌, ◌/◌, ◌%◌, ◌<◌, ◌≤◌, Bool, true, false, not, ◌&&◌, eqb, ltb, leb, ◌≢◌, ◌⊎◌, List, length, get_or, nat_abs, Some, None, sym, refl, ap, ◌∙◌, subst, inl, inr, arith}
+use Rattle.std.proofs.Common.{◌≡◌, ℕ, zero, suc, ◌+◌, ◌*◌, ◌/◌, ◌%◌, ◌<◌, ◌≤◌, true, false, ltb, ◌≢◌, List, length, get_or, Some, None, sym, refl, ap, ◌∙◌, subst, inl, inr, arith}
 use Rattle.std.proofs.lemmas.List.{get_or_past}
 use Rattle.std.proofs.lemmas.List.Elements.{All-get_or}
 use Rattle.std.proofs.lemmas.List.Sums.{AllPass-from_list_all}
 use Rattle.std.proofs.lemmas.Bool.Decides.{nat_tests}
-use Rattle.std.proofs.lemmas.Bool.{and_parts, and_from, eq-eqb, or_cases, not-true, ltb-true, ltb-false, lt-ltb, le-ltb, leb-true, eqb-true, eqb-false, ne_eqb, cond-true, cond-false, cases_lt}
+use Rattle.std.proofs.lemmas.Bool.{and_parts, ltb-true, ltb-false, le-ltb, cases_lt}
 use Rattle.mesh.specs.declared.Point.{Point}
 use Rattle.mesh.specs.declared.Triangle.{Triangle}
 use Rattle.mesh.specs.HalfEdges.{next}
 use Rattle.mesh.specs.Model.{Lawful, Near, origin}
-use Rattle.std.specs.List.{list_all}
 use Rattle.mesh.specs.Every.{every_below}
-use Rattle.mesh.specs.Stored.{corner_of, blank, stored_start, no_twin, against, twin_of, stored_twin, stored, near, sound, answered, twin_kept, set_fits, lists_fit, stored_fits}
+use Rattle.mesh.specs.Stored.{corner_of, blank, stored_start, no_twin, twin_of, stored_twin, stored, near, sound, answered, twin_kept, set_fits, lists_fit, stored_fits}
 use Rattle.mesh.proofs.Every.{below_at}
 
 near_is : (p : Point) → near p ≡ true → Near p
