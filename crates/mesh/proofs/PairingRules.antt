@@ -2,6 +2,7 @@
 use Rattle.std.proofs.Common.{◌≡◌, ℕ, zero, suc, ◌+◌, ◌-◌, ◌<◌, ◌≤◌, Bool, true, false, cond, ◌&&◌, ◌≢◌, ◌⊎◌, List, length, get_or, set, Some, None, Option, sym, refl, ap, ◌∙◌, subst, inl, inr, add-one, arith}
 use Rattle.std.proofs.lemmas.List.{length-set, length-replicate, get_or-replicate, get_or-set_same, get_or-set_other, get_or_past}
 use Rattle.std.proofs.lemmas.Bool.Decides.{nat_tests}
+use Rattle.std.proofs.lemmas.Grind.{common_steps}
 use Rattle.std.proofs.lemmas.Bool.{cases_Bool, and_cases, and_left, and_right, eqb-true, eqb-false, cases_eq, cases_lt, cond-false}
 use Rattle.mesh.specs.HalfEdges.{next}
 use Rattle.mesh.specs.Stored.{no_twin, against}
@@ -186,24 +187,17 @@ against_turned start h g e = grind (arith, nat_tests)
 module _ (start : ℕ → ℕ) (n : ℕ) (few : n ≤ 196608) (apart : Apart start n) where
   -- a turn leaves no half-edge free that had a twin
   still_free : (twins : List ℕ) → length twins ≡ n → (k x : ℕ) → k < n → get_or (pair_one start twins k) x 0 ≡ no_twin → get_or twins x 0 ≡ no_twin
-  unfolding pair_one
-  still_free twins size k x l e = go (free twins k) (mate start twins k) refl e
+  still_free twins size k x l e = elim (cases_eq (get_or twins k 0) no_twin) [
+    inr d ↦ ap (λ t. get_or t x 0) (paired_before start twins k d) ∙ e
+    | inl d ↦ go d (mate start twins k) refl
+  ]
     where
-      go : (b : Bool) (o : Option ℕ) → mate start twins k ≡ o → get_or (cond b (joined twins k o) twins) x 0 ≡ no_twin → get_or twins x 0 ≡ no_twin
-      go false o p q = q
-      go true None p q = q
-      go true (Some g) p q = by_g (cases_eq x g)
-        where
-          inside : g < n
-          inside = omega (arith, (mate_is start twins k g p).1)
-
-          by_k : (x ≡ g → ⊥) → (x ≡ k) ⊎ (x ≡ k → ⊥) → get_or twins x 0 ≡ no_twin
-          by_k d (inl f) = absurd (let z : g ≡ no_twin = sym (get_or-set_other (set twins k g) g x k 0 d ∙ ap (λ y. get_or (set twins k g) y 0) f ∙ get_or-set_same twins k g 0 (omega arith)) ∙ q in omega (arith, inside))
-          by_k d (inr f) = sym (get_or-set_other (set twins k g) g x k 0 d ∙ get_or-set_other twins k x g 0 f) ∙ q
-
-          by_g : (x ≡ g) ⊎ (x ≡ g → ⊥) → get_or twins x 0 ≡ no_twin
-          by_g (inl f) = absurd (let z : k ≡ no_twin = sym (ap (λ y. get_or (set (set twins k g) g k) y 0) f ∙ get_or-set_same (set twins k g) g k 0 (omega (arith, length-set twins k g, inside))) ∙ q in omega arith)
-          by_g (inr d) = by_k d (cases_eq x k)
+      go : get_or twins k 0 ≡ no_twin → (o : Option ℕ) → mate start twins k ≡ o → get_or twins x 0 ≡ no_twin
+      go d None p = ap (λ t. get_or t x 0) (paired_none start twins k d p) ∙ e
+      go d (Some g) p =
+          let inside : g < n = omega (arith, (mate_is start twins k g p).1) in
+          let new : get_or (set (set twins k g) g k) x 0 ≡ no_twin = ap (λ t. get_or t x 0) (paired_now start twins k g d p) ∙ e in
+          grind (arith, common_steps)
 
   -- a half-edge that its own turn left free has no free partner
   unpaired : (twins : List ℕ) → length twins ≡ n → (k x : ℕ) → k < n → get_or (pair_one start twins k) k 0 ≡ no_twin → get_or twins x 0 ≡ no_twin → against start k x ≡ false
