@@ -186,7 +186,7 @@ module _ (V : ℕ) (some : 0 < V) where
 
 small_at : (xs : List ℕ) → list_all small xs ≡ true → (p : ℕ) → get_or xs p 0 ≤ 10000
 small_at xs e p = elim (cases_lt p (length xs)) [
-  inl h ↦ leb-true (get_or xs p 0) 10000 (All-get_or (λ x. small x ≡ true) xs p 0 h (AllPass-from_list_all small xs e))
+  | inl h ↦ leb-true (get_or xs p 0) 10000 (All-get_or (λ x. small x ≡ true) xs p 0 h (AllPass-from_list_all small xs e))
   | inr h ↦ omega (arith, get_or_past xs p 0 h)
 ]
 
@@ -259,7 +259,7 @@ module _ (W H s : ℕ) (rs : List ℕ) (l : Limits W H s rs) where
 
   near : (p : ℕ) → Near (grid_place W H s rs p)
   near p = elim (cases_lt p (W * H)) [
-    inl h ↦ subst Near (sym (place_of p h)) (record { x = omega (arith, column_fits p); y = omega (arith, row_fits p h); z = l.small p })
+    | inl h ↦ subst Near (sym (place_of p h)) (record { x = omega (arith, column_fits p); y = omega (arith, row_fits p h); z = l.small p })
     | inr h ↦ subst Near (sym (far p h)) (record { x = omega arith; y = omega arith; z = omega arith })
   ]
 

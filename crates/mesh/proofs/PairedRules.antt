@@ -17,7 +17,7 @@ named triangles twins h g m = grind (arith, nat_tests)
 
 kept : (triangles : List Triangle) (twins : List ℕ) → TwinRule (stored_start triangles) twins → (h : ℕ) → h < length twins → twin_kept triangles twins h ≡ true
 kept triangles twins rule h l = elim (cases_eq (get_or twins h 0) no_twin) [
-  inl e ↦ grind (arith, nat_tests)
+  | inl e ↦ grind (arith, nat_tests)
   | inr e ↦ or_right (eqb (get_or twins h 0) no_twin) (answered triangles twins h (get_or twins h 0)) (named triangles twins h (get_or twins h 0) (rule h l e))
 ]
 

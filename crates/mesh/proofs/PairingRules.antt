@@ -3,7 +3,7 @@ use Rattle.std.proofs.Common.{◌≡◌, ℕ, zero, suc, ◌+◌, ◌-◌, ◌<�
 use Rattle.std.proofs.lemmas.List.{length-set, length-replicate, get_or-replicate, get_or-set_same, get_or-set_other, get_or_past}
 use Rattle.std.proofs.lemmas.Bool.Decides.{nat_tests}
 use Rattle.std.proofs.lemmas.Grind.{common_steps}
-use Rattle.std.proofs.lemmas.Bool.{cases_Bool, and_cases, and_left, and_right, eqb-true, eqb-false, cases_eq, cases_lt, cond-false}
+use Rattle.std.proofs.lemmas.Bool.{cases_Bool, and_left, and_right, eqb-true, cases_eq, cases_lt, cond-false}
 use Rattle.mesh.specs.HalfEdges.{next}
 use Rattle.mesh.specs.Stored.{no_twin, against}
 use Rattle.mesh.proofs.StoredRules.{Mutual}
@@ -16,7 +16,7 @@ TwinRule start twins = (h : ℕ) → h < length twins → (get_or twins h 0 ≡ 
 pub lowest_is : (test : ℕ → Bool) (count k g : ℕ) → lowest test count k ≡ Some g → (test g ≡ true) × (k ≤ g) × (g < k + count)
 lowest_is test zero k g e = absurd cc
 lowest_is test (suc count) k g e = elim (cases_Bool (test k)) [
-  inl t ↦ let q : k ≡ g = grind (arith, nat_tests) in (ap test (sym q) ∙ t, omega arith, omega arith)
+  | inl t ↦ let q : k ≡ g = grind (arith, nat_tests) in (ap test (sym q) ∙ t, omega arith, omega arith)
   | inr t ↦ let (a, b, d) = lowest_is test count (k + 1) g (grind (arith, nat_tests)) in (a, omega arith, omega arith)
 ]
 
@@ -102,18 +102,19 @@ module _ (start : ℕ → ℕ) (n : ℕ) (apart : Apart start n) where
 
     one_keeps : (h : ℕ) → h < length twins → TwinRule start (pair_one start twins h)
     one_keeps h hl = elim (cases_eq (get_or twins h 0) no_twin) [
-      inl e ↦ subst (TwinRule start) (paired_as start twins h (mate start twins h) e refl) (joined_keeps h hl e (mate start twins h) refl)
+      | inl e ↦ subst (TwinRule start) (paired_as start twins h (mate start twins h) e refl) (joined_keeps h hl e (mate start twins h) refl)
       | inr e ↦ subst (TwinRule start) (paired_before start twins h e) rule
     ]
 
   pub length_one : (twins : List ℕ) (h : ℕ) → length (pair_one start twins h) ≡ length twins
-  unfolding pair_one
-  length_one twins h = go (free twins h) (mate start twins h)
+  length_one twins h = elim (cases_eq (get_or twins h 0) no_twin) [
+    | inr d ↦ ap length (sym (paired_before start twins h d))
+    | inl d ↦ ap length (sym (paired_as start twins h (mate start twins h) d refl)) ∙ joined_length (mate start twins h)
+  ]
     where
-      go : (b : Bool) (o : Option ℕ) → length (cond b (joined twins h o) twins) ≡ length twins
-      go true None = refl
-      go true (Some g) = length-set (set twins h g) g h ∙ length-set twins h g
-      go false o = refl
+      joined_length : (o : Option ℕ) → length (joined twins h o) ≡ length twins
+      joined_length None = refl
+      joined_length (Some g) = grind (arith, common_steps)
 
   pub length_below : (k : ℕ) → length (pair_below start n k) ≡ n
   length_below zero = length-replicate n no_twin
@@ -170,7 +171,7 @@ lowest_all test (suc count) k e x p q =
     let n : test k ≡ false = grind (arith, nat_tests) in
     let r : lowest test count (k + 1) ≡ None = grind (arith, nat_tests) in
     elim (cases_eq k x) [
-      inl o ↦ ap test (sym o) ∙ n
+      | inl o ↦ ap test (sym o) ∙ n
       | inr o ↦ lowest_all test count (k + 1) r x (omega arith) (omega arith)
     ]
 
@@ -188,7 +189,7 @@ module _ (start : ℕ → ℕ) (n : ℕ) (few : n ≤ 196608) (apart : Apart sta
   -- a turn leaves no half-edge free that had a twin
   still_free : (twins : List ℕ) → length twins ≡ n → (k x : ℕ) → k < n → get_or (pair_one start twins k) x 0 ≡ no_twin → get_or twins x 0 ≡ no_twin
   still_free twins size k x l e = elim (cases_eq (get_or twins k 0) no_twin) [
-    inr d ↦ ap (λ t. get_or t x 0) (paired_before start twins k d) ∙ e
+    | inr d ↦ ap (λ t. get_or t x 0) (paired_before start twins k d) ∙ e
     | inl d ↦ go d (mate start twins k) refl
   ]
     where
@@ -201,33 +202,21 @@ module _ (start : ℕ → ℕ) (n : ℕ) (few : n ≤ 196608) (apart : Apart sta
 
   -- a half-edge that its own turn left free has no free partner
   unpaired : (twins : List ℕ) → length twins ≡ n → (k x : ℕ) → k < n → get_or (pair_one start twins k) k 0 ≡ no_twin → get_or twins x 0 ≡ no_twin → against start k x ≡ false
-  unfolding pair_one
   unpaired twins size k x l e f = go (mate start twins k) refl
     where
       here : get_or twins k 0 ≡ no_twin
       here = still_free twins size k k l e
 
-      below : x < length twins
-      below = by (cases_lt x (length twins))
-        where
-          by : (x < length twins) ⊎ (length twins ≤ x) → x < length twins
-          by (inl p) = p
-          by (inr p) = absurd (omega (arith, get_or_past twins x 0 p))
-
       go : (o : Option ℕ) → mate start twins k ≡ o → against start k x ≡ false
-      go None p = by (and_cases (free twins x) (against start k x) (lowest_all (suits start twins k) (length twins) 0 (mate_none start twins k p) x (omega arith) (omega (arith, below))))
-        where
-          by : (free twins x ≡ false) ⊎ (against start k x ≡ false) → against start k x ≡ false
-          by (inl q) = absurd (eqb-false (get_or twins x 0) no_twin q f)
-          by (inr q) = q
+      go None p =
+          let below : x < length twins = grind (arith, get_or_past twins x 0) in
+          let f' : free twins x ≡ true = grind (arith, nat_tests) in
+          let none : suits start twins k x ≡ false = lowest_all (suits start twins k) (length twins) 0 (mate_none start twins k p) x (omega arith) (omega (arith, below)) in
+          grind (arith, nat_tests)
       go (Some g) p =
           let inside : g < n = omega (arith, (mate_is start twins k g p).1) in
           let new : get_or (set (set twins k g) g k) k 0 ≡ no_twin = ap (λ t. get_or t k 0) (paired_now start twins k g here p) ∙ e in
-          absurd (by inside new (cases_eq k g))
-        where
-          by : g < n → get_or (set (set twins k g) g k) k 0 ≡ no_twin → (k ≡ g) ⊎ (k ≡ g → ⊥) → ⊥
-          by inside new (inl q) = let z : k ≡ no_twin = sym (ap (λ y. get_or (set (set twins k g) g k) y 0) q ∙ get_or-set_same (set twins k g) g k 0 (omega (arith, length-set twins k g))) ∙ new in omega arith
-          by inside new (inr q) = let z : g ≡ no_twin = sym (get_or-set_other (set twins k g) g k k 0 q ∙ get_or-set_same twins k g 0 (omega arith)) ∙ new in omega arith
+          absurd (grind (arith, common_steps))
 
   -- after k turns, a free half-edge below k has no free partner
   pub settled : (k : ℕ) → k ≤ n → (h x : ℕ) → h < k → get_or (pair_below start n k) h 0 ≡ no_twin → get_or (pair_below start n k) x 0 ≡ no_twin → against start h x ≡ false

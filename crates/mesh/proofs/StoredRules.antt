@@ -120,7 +120,7 @@ module _ (points : List Point) (triangles : List Triangle) (twins : List ℕ) (e
 
   near_at : (p : ℕ) → Near (get_or points p origin)
   near_at p = elim (cases_lt p (length points)) [
-    inl h ↦ (fitting points triangles parts.set).nears p h
+    | inl h ↦ (fitting points triangles parts.set).nears p h
     | inr h ↦ subst Near (sym (get_or_past points p origin h)) (record { x = omega arith; y = omega arith; z = omega arith })
   ]
 
