@@ -2,6 +2,7 @@
 use Rattle.std.proofs.Common.{◌≡◌, ℕ, zero, suc, ◌+◌, ◌-◌, ◌<◌, ◌≤◌, Bool, true, false, cond, ◌&&◌, eqb, ◌≢◌, ◌⊎◌, List, length, get_or, set, Some, None, Option, sym, refl, ap, ◌∙◌, subst, inl, inr, add-one, arith}
 use Rattle.std.proofs.lemmas.List.{length-set, length-replicate, get_or-replicate, get_or-set_same, get_or-set_other, get_or_past}
 use Rattle.std.proofs.lemmas.Bool.{and_parts, and_from, and_cases, and_left, and_right, both_ways, eqb-true, eqb-false, eq-eqb, ne_eqb, cases_eq, cases_lt, cond-true, cond-false}
+use Rattle.std.specs.List.{find, range_with_len}
 use Rattle.mesh.specs.HalfEdges.{next}
 use Rattle.mesh.specs.Stored.{no_twin, against}
 use Rattle.mesh.proofs.StoredRules.{Mutual}
@@ -120,18 +121,10 @@ module _ (start : ℕ → ℕ) (n : ℕ) (apart : Apart start n) where
       let e = length_below k in
       one_keeps (pair_below start n k) (omega arith) e (below_keeps k few (omega arith)) k (omega arith)
 
--- the hunt, number by number
-pub lowest_more : (test : ℕ → Bool) (n g : ℕ) → g < n → lowest test (n - g) g ≡ cond (test g) (Some g) (lowest test (n - (g + 1)) (g + 1))
-lowest_more test n g h = let e : n - g ≡ suc (n - (g + 1)) = omega arith in ap (λ c. lowest test c g) e
-
-pub lowest_found : (test : ℕ → Bool) (n g : ℕ) (o : Option ℕ) → g < n → test g ≡ true → lowest test (n - g) g ≡ o → Some g ≡ o
-lowest_found test n g o h t e = sym (cond-true (test g) (Some g) (lowest test (n - (g + 1)) (g + 1)) t) ∙ sym (lowest_more test n g h) ∙ e
-
-pub lowest_past : (test : ℕ → Bool) (n g : ℕ) (o : Option ℕ) → g < n → test g ≡ false → lowest test (n - g) g ≡ o → lowest test (n - (g + 1)) (g + 1) ≡ o
-lowest_past test n g o h t e = sym (cond-false (test g) (Some g) (lowest test (n - (g + 1)) (g + 1)) t) ∙ sym (lowest_more test n g h) ∙ e
-
-pub lowest_none : (test : ℕ → Bool) (n g : ℕ) (o : Option ℕ) → n ≤ g → lowest test (n - g) g ≡ o → None ≡ o
-lowest_none test n g o h e = let z : n - g ≡ 0 = omega arith in sym (ap (λ c. lowest test c g) z) ∙ e
+-- the hunt is a search of the numbers from k up
+pub lowest_found : (test : ℕ → Bool) (count k : ℕ) → find test (range_with_len k count) ≡ lowest test count k
+lowest_found test zero k = refl
+lowest_found test (suc count) k = ap (cond (test k) (Some k)) (lowest_found test count (k + 1))
 
 pub below_more : (start : ℕ → ℕ) (n k : ℕ) (old new : List ℕ) → old ≡ pair_below start n k → new ≡ pair_one start old k → new ≡ pair_below start n (k + 1)
 below_more start n k old new e f = f ∙ ap (λ t. pair_one start t k) e ∙ ap (pair_below start n) (sym (add-one k))

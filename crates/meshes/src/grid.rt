@@ -1,9 +1,11 @@
 // A mesh over depth readings.
 mod making;
 pub mod replies;
+mod side;
 
 ghost use Rattle.std.specs.Prelude.{◌≡◌, true};
 ghost use Rattle.mesh.specs.Grid.{grid_fits};
+ghost use Rattle.mesh.proofs.GridRules.{Limits};
 
 // The settings and the readings are in limits, so the mesh over them keeps the rules.
 #[derive(Drop)]
@@ -13,4 +15,5 @@ pub struct DepthGrid<'a> {
     pitch: u32,
     readings: &'a [u16],
     ghost fitting: { grid_fits columns rows pitch readings.now ≡ true },
+    ghost limits: { Limits columns rows pitch readings.now },
 }
