@@ -1,6 +1,5 @@
 -- A mirrored mesh keeps the rules, and mirrored twice is the mesh again.
-use Rattle.std.proofs.Common.{◌≡◌, ℕ, zero, suc, ◌/◌, ◌≤◌, ℤ, pos, negsuc, neg_ℤ, nat_abs, min, Some, None, Option, sym, refl, ap, ◌∙◌, subst, arith}
-use Rattle.mesh.specs.declared.Point.{Point}
+use Rattle.std.proofs.Common.{◌≡◌, ℕ, zero, suc, ◌/◌, ◌≤◌, ℤ, pos, negsuc, neg_ℤ, nat_abs, min, Some, None, Option, sym, refl, ap, ◌∙◌, arith}
 use Rattle.mesh.specs.HalfEdges.{next}
 use Rattle.mesh.specs.Model.{MeshModel, Lawful, Near, end_of, origin}
 use Rattle.mesh.proofs.Rules.{capped, start_past, twin_past}
@@ -84,6 +83,3 @@ end_capped m l h = capped (end_of m) 0 (λ k p. start_past m l (next k) (omega a
 
 pub twin_capped : (m : MeshModel) → Lawful m → (h : ℕ) → m.twin (min (flip h) 4294967295) ≡ m.twin (flip h)
 twin_capped m l h = capped m.twin None (twin_past m l) (flip h)
-
-pub near_x : (m : MeshModel) → Lawful m → (p : ℕ) (q : Point) → q ≡ m.place p → nat_abs q.x ≤ 10000
-near_x m l p q e = let P : Point → Type 0 = λ q. nat_abs q.x ≤ 10000 in subst P (sym e) (l.near p).x

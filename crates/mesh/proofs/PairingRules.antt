@@ -1,5 +1,5 @@
 -- The paired list keeps the rule of twins, turn by turn, and leaves no two half-edges that could be paired.
-use Rattle.std.proofs.Common.{◌≡◌, ℕ, zero, suc, ◌+◌, ◌-◌, ◌<◌, ◌≤◌, Bool, true, false, cond, ◌&&◌, eqb, ◌≢◌, ◌⊎◌, List, length, get_or, set, Some, None, Option, sym, refl, ap, ◌∙◌, subst, inl, inr, add-one, arith}
+use Rattle.std.proofs.Common.{◌≡◌, ℕ, zero, suc, ◌+◌, ◌-◌, ◌<◌, ◌≤◌, Bool, true, false, cond, ◌&&◌, eqb, ◌≢◌, ◌⊎◌, List, length, get_or, set, Some, None, Option, sym, refl, ap, ◌∙◌, subst, inl, inr, arith}
 use Rattle.std.proofs.lemmas.List.{length-set, length-replicate, get_or-replicate, get_or-set_same, get_or-set_other, get_or_past}
 use Rattle.std.proofs.lemmas.Bool.{and_parts, and_from, and_cases, and_left, and_right, both_ways, eqb-true, eqb-false, eq-eqb, ne_eqb, cases_eq, cases_lt, cond-true, cond-false}
 use Rattle.std.specs.List.{find, range_with_len}
@@ -126,22 +126,9 @@ pub lowest_found : (test : ℕ → Bool) (count k : ℕ) → find test (range_wi
 lowest_found test zero k = refl
 lowest_found test (suc count) k = ap (cond (test k) (Some k)) (lowest_found test count (k + 1))
 
-pub below_more : (start : ℕ → ℕ) (n k : ℕ) (old new : List ℕ) → old ≡ pair_below start n k → new ≡ pair_one start old k → new ≡ pair_below start n (k + 1)
-below_more start n k old new e f = f ∙ ap (λ t. pair_one start t k) e ∙ ap (pair_below start n) (sym (add-one k))
-
-pub paired_before : (start : ℕ → ℕ) (twins : List ℕ) (h : ℕ) → (get_or twins h 0 ≡ no_twin → ⊥) → twins ≡ pair_one start twins h
+paired_now : (start : ℕ → ℕ) (twins : List ℕ) (h g : ℕ) → get_or twins h 0 ≡ no_twin → mate start twins h ≡ Some g → set (set twins h g) g h ≡ pair_one start twins h
 unfolding pair_one
-paired_before start twins h n = sym (cond-false (free twins h) (joined twins h (mate start twins h)) twins (ne_eqb (get_or twins h 0) no_twin n))
-
-pub paired_as : (start : ℕ → ℕ) (twins : List ℕ) (h : ℕ) (o : Option ℕ) → get_or twins h 0 ≡ no_twin → mate start twins h ≡ o → joined twins h o ≡ pair_one start twins h
-unfolding pair_one
-paired_as start twins h o f e = sym (cond-true (free twins h) (joined twins h (mate start twins h)) twins (eq-eqb (get_or twins h 0) no_twin f) ∙ ap (joined twins h) e)
-
-pub paired_now : (start : ℕ → ℕ) (twins : List ℕ) (h g : ℕ) → get_or twins h 0 ≡ no_twin → mate start twins h ≡ Some g → set (set twins h g) g h ≡ pair_one start twins h
-paired_now start twins h g f e = paired_as start twins h (Some g) f e
-
-pub paired_none : (start : ℕ → ℕ) (twins : List ℕ) (h : ℕ) → get_or twins h 0 ≡ no_twin → mate start twins h ≡ None → twins ≡ pair_one start twins h
-paired_none start twins h f e = paired_as start twins h None f e
+paired_now start twins h g f e = sym (cond-true (free twins h) (joined twins h (mate start twins h)) twins (eq-eqb (get_or twins h 0) no_twin f) ∙ ap (joined twins h) e)
 
 -- every number below g fails, so the hunt may begin at g
 pub lowest_skip : (test : ℕ → Bool) (count k g : ℕ) → k ≤ g → g ≤ k + count → ((x : ℕ) → k ≤ x → x < g → test x ≡ false) → lowest test count k ≡ lowest test (k + count - g) g

@@ -97,17 +97,16 @@ pub record Mutual (start : ℕ → ℕ) (twins : List ℕ) (h g : ℕ) : Type 0 
   pub along : start g ≡ start (next h)
   pub against : start (next g) ≡ start h
 
-pub record Listed (points : List Point) (triangles : List Triangle) (twins : List ℕ) : Type 0 where
-  pub set : set_fits points triangles ≡ true
-  pub many : length twins ≡ 3 * length triangles
-  pub few : length twins ≤ 196608
+record Listed (points : List Point) (triangles : List Triangle) (twins : List ℕ) : Type 0 where
+  set : set_fits points triangles ≡ true
+  many : length twins ≡ 3 * length triangles
 
-pub listed : (points : List Point) (triangles : List Triangle) (twins : List ℕ) → lists_fit points triangles twins ≡ true → Listed points triangles twins
+listed : (points : List Point) (triangles : List Triangle) (twins : List ℕ) → lists_fit points triangles twins ≡ true → Listed points triangles twins
 unfolding lists_fit
 listed points triangles twins e =
     let (s, m) = and_parts (set_fits points triangles) (eqb (length twins) (3 * length triangles)) e in
     let n = eqb-true (length twins) (3 * length triangles) m in
-    record { set = s; many = n; few = omega (arith, n, (fitting points triangles s).few_triangles) }
+    record { set = s; many = n }
 
 pub lists_from : (points : List Point) (triangles : List Triangle) (twins : List ℕ) → set_fits points triangles ≡ true → length twins ≡ 3 * length triangles → lists_fit points triangles twins ≡ true
 unfolding lists_fit

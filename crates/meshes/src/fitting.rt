@@ -6,7 +6,7 @@ ghost use Rattle.mesh.specs.Stored.{near as is_near, sound as is_sound, corner_o
 
 use mesh::{ENTRY_LIMIT, Point, Triangle, in_limits, next, triangle_of};
 
-// They have been looked at once, when this was made, so that nothing below has to ask again.
+// They are looked at once, when this is made, so that nothing that is done with them has to ask again.
 #[derive(Clone, Copy)]
 pub(crate) struct FittingSet<'a> {
     pub(crate) points: &'a [Point],

@@ -7,7 +7,7 @@ ghost use Rattle.std.specs.Prelude.{◌≡◌, true};
 ghost use Rattle.mesh.specs.Grid.{grid_fits};
 ghost use Rattle.mesh.proofs.GridRules.{Limits};
 
-// The settings and the readings are in limits, so the mesh over them keeps the rules.
+// The settings and the readings are in limits, so the mesh over them keeps the rules; `limits` says what follows.
 #[derive(Drop)]
 pub struct DepthGrid<'a> {
     columns: u32,

@@ -48,7 +48,7 @@ impl FittingSet<'_> {
         }
     }
 
-    // All turns, in ascending order.
+    // All turns, in ascending order: a loop, since each turn changes the list that the next one reads.
     fn pair_all(&self, twins: &mut [u32])
         requires { length twins.old ≡ 3 * length self.now.triangles.now }
         ensures { twins.new ≡ pairing self.now.triangles.now }

@@ -5,10 +5,10 @@ ghost use Rattle.mesh.specs.Grid.{corner as corner_of, across as across_of};
 
 // Side `side` of cell `cell`, where a row has `cells` cells.
 #[derive(Clone, Copy)]
-pub(crate) struct Side {
-    pub(crate) cells: u32,
-    pub(crate) cell: u32,
-    pub(crate) side: u32,
+pub(super) struct Side {
+    pub(super) cells: u32,
+    pub(super) cell: u32,
+    pub(super) side: u32,
     ghost some: { 0 < cells },
     ghost few: { cells ≤ 180 },
     ghost inside: { cell < 32400 },
@@ -17,7 +17,7 @@ pub(crate) struct Side {
 
 impl Side {
     // Where the side starts.
-    pub(crate) fn corner(&self) -> u32
+    pub(super) fn corner(&self) -> u32
         ensures { result ≡ corner_of self.now.cells self.now.cell self.now.side }
     {
         let width = self.cells + 1;
@@ -31,7 +31,7 @@ impl Side {
     }
 
     // The half-edge across the side, were all triangles present, and always a cell below.
-    pub(crate) fn across(&self) -> Option<u32>
+    pub(super) fn across(&self) -> Option<u32>
         ensures { result ≡ across_of self.now.cells self.now.cell self.now.side }
     {
         let Side { cells, cell, side } = *self;

@@ -1,3 +1,4 @@
+-- Lists that pass the tests are few, besides.
 use Rattle.std.proofs.Common.{◌≡◌, true, rules}
 use Rattle.mesh.specs.Stored.{set_fits}
 use Rattle.mesh.proofs.StoredRules.{fitting}

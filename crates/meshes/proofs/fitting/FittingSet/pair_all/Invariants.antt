@@ -1,3 +1,4 @@
+-- The list is what the turns so far have made of it.
 use Rattle.std.proofs.Common.{◌≡◌, ◌*◌, length}
 use Rattle.mesh.specs.Stored.{stored_start}
 use Rattle.mesh.specs.Pairing.{pair_below}

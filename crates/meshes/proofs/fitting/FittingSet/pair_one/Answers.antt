@@ -1,3 +1,4 @@
+-- A mate is a half-edge of the list.
 use Rattle.std.proofs.Common.{sym, ◌∙◌, rules}
 use Rattle.mesh.proofs.PairingRules.{mate_is}
 use Rattle.meshes.proofs.fitting.FittingSet.pair_one.Goals as goal

@@ -1,3 +1,4 @@
+-- Settings and readings that pass the tests are in limits.
 use Rattle.std.proofs.Common.{sym, ◌∙◌}
 use Rattle.mesh.proofs.GridRules.{limits}
 use Rattle.meshes.proofs.grid.DepthGrid.new.Goals as goal

@@ -1,3 +1,4 @@
+-- The number past the highest has the same end as the highest.
 use Rattle.std.proofs.Common.{ap, ◌∙◌}
 use Rattle.mesh.specs.Model.{end_of}
 use Rattle.mesh.proofs.MirrorRules.{end_capped}

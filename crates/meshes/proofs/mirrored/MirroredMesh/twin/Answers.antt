@@ -1,3 +1,4 @@
+-- A twin lies below the highest number, so to flip it is to flip it exactly.
 use Rattle.std.proofs.Common.{◌≡◌, ℕ, MatchOption, IsSomeAnd, Some, None, Option, sym, refl, ap, ◌∙◌, rules}
 use Rattle.mesh.specs.Mirror.{flip, flip_twin}
 use Rattle.mesh.proofs.Rules.{twin_below}
