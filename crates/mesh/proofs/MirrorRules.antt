@@ -1,9 +1,9 @@
 -- A mirrored mesh keeps the rules, and mirrored twice is the mesh again.
-use Rattle.std.proofs.Common.{◌≡◌, ℕ, zero, suc, ◌/◌, ◌≤◌, ℤ, pos, negsuc, neg_ℤ, nat_abs, Some, None, Option, sym, refl, ap, ◌∙◌, subst, arith}
+use Rattle.std.proofs.Common.{◌≡◌, ℕ, zero, suc, ◌/◌, ◌≤◌, ℤ, pos, negsuc, neg_ℤ, nat_abs, min, Some, None, Option, sym, refl, ap, ◌∙◌, arith}
 use Rattle.std.proofs.Math.IntN.{neg_ℤ-neg_ℤ}
-use Rattle.mesh.specs.declared.Point.{Point}
 use Rattle.mesh.specs.HalfEdges.{next}
-use Rattle.mesh.specs.Model.{MeshModel, Lawful, Near, origin}
+use Rattle.mesh.specs.Model.{MeshModel, Lawful, Near, end_of, origin}
+use Rattle.mesh.proofs.Rules.{capped, start_past, twin_past}
 use Rattle.mesh.specs.Mirror.{mirror, flip, flip_twin, opposite, MirrorLaw}
 
 neg_size : (z : ℤ) → nat_abs (neg_ℤ z) ≡ nat_abs z
@@ -73,6 +73,9 @@ module _ (m : MeshModel) (l : Lawful m) where
       turned : (h : ℕ) → next (flip (next h)) ≡ flip h
       turned h = omega arith
 
--- what the code asks of the mesh below
-pub near_x : (m : MeshModel) → Lawful m → (p : ℕ) (q : Point) → q ≡ m.place p → nat_abs q.x ≤ 10000
-near_x m l p q e = let P : Point → Type 0 = λ q. nat_abs q.x ≤ 10000 in subst P (sym e) (l.near p).x
+-- what the code asks of the mesh below, where the highest number stands for the one past it
+pub end_capped : (m : MeshModel) → Lawful m → (h : ℕ) → end_of m (min (flip h) 4294967295) ≡ end_of m (flip h)
+end_capped m l h = capped (end_of m) 0 (λ k p. start_past m l (next k) (omega arith)) (flip h)
+
+pub twin_capped : (m : MeshModel) → Lawful m → (h : ℕ) → m.twin (min (flip h) 4294967295) ≡ m.twin (flip h)
+twin_capped m l h = capped m.twin None (twin_past m l) (flip h)

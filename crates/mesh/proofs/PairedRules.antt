@@ -1,8 +1,9 @@
 -- Lists that fit before pairing make a stored mesh after it, and no pair is left.
-use Rattle.std.proofs.Common.{◌≡◌, ℕ, ◌+◌, ◌-◌, ◌*◌, ◌<◌, ◌≤◌, true, false, eqb, ◌⊎◌, List, length, get_or, Some, refl, ◌∙◌, inl, inr, arith}
+use Rattle.std.proofs.Common.{◌≡◌, ℕ, ◌+◌, ◌-◌, ◌*◌, ◌<◌, ◌≤◌, true, false, eqb, ◌⊎◌, List, length, get_or, Some, refl, ap, ◌∙◌, inl, inr, arith}
 use Rattle.std.proofs.lemmas.List.{get_or_past}
 use Rattle.std.proofs.lemmas.Bool.Decides.{nat_tests}
 use Rattle.std.proofs.lemmas.Bool.{and_from, or_right, eqb-true, cases_lt, cases_eq}
+use Rattle.std.specs.List.{find, range_with_len}
 use Rattle.mesh.specs.declared.Point.{Point}
 use Rattle.mesh.specs.declared.Triangle.{Triangle}
 use Rattle.mesh.specs.Every.{every_below}
@@ -10,7 +11,7 @@ use Rattle.mesh.specs.Stored.{no_twin, against, answered, twin_kept, set_fits, l
 use Rattle.mesh.specs.Pairing.{Apart, free, suits, mate, pair_below, pairing, PairsStand, MatesAbove, NoneLeft}
 use Rattle.mesh.proofs.Every.{below_from}
 use Rattle.mesh.proofs.StoredRules.{Mutual, fitting, lists_from, start_apart}
-use Rattle.mesh.proofs.PairingRules.{TwinRule, length_below, below_keeps, settled, hunt_above, lowest_is}
+use Rattle.mesh.proofs.PairingRules.{TwinRule, length_below, below_keeps, settled, hunt_above, lowest_is, lowest_found}
 
 named : (triangles : List Triangle) (twins : List ℕ) (h g : ℕ) → Mutual (stored_start triangles) twins h g → answered triangles twins h g ≡ true
 named triangles twins h g m = grind (arith, nat_tests)
@@ -58,6 +59,22 @@ module _ (points : List Point) (triangles : List Triangle) (e : set_fits points 
       let twins = pair_below start n h in
       let e = hunt_above start n few apart twins h l refl (eqb-true (get_or twins h 0) no_twin f) in
       omega (arith, (lowest_is (suits start twins h) (n - (h + 1)) (h + 1) g (e ∙ m)).1)
+
+  -- while the turns go on, a half-edge without a twin is in the list, and its mate is the lowest above it that suits
+  module _ (twins : List ℕ) (h : ℕ) (turns : twins ≡ pair_below (stored_start triangles) (3 * length triangles) h) (f : free twins h ≡ true) where
+    many : length twins ≡ 3 * length triangles
+    many = ap length turns ∙ length_below (stored_start triangles) (3 * length triangles) apart h
+
+    pub inside : h < 3 * length triangles
+    inside = elim (cases_lt h (length twins)) [
+      | inl l ↦ omega (arith, many)
+      | inr l ↦ absurd (omega (arith, get_or_past twins h 0 l, eqb-true (get_or twins h 0) no_twin f))
+    ]
+
+    pub mate_found : find (suits (stored_start triangles) twins h) (range_with_len (h + 1) (3 * length triangles - (h + 1))) ≡ mate (stored_start triangles) twins h
+    mate_found =
+        lowest_found (suits (stored_start triangles) twins h) (3 * length triangles - (h + 1)) (h + 1)
+        ∙ hunt_above (stored_start triangles) (3 * length triangles) few apart twins h inside turns (eqb-true (get_or twins h 0) no_twin f)
 
 pub mates_above : MatesAbove
 mates_above = above

@@ -1,9 +1,10 @@
 -- The paired list keeps the rule of twins, turn by turn, and leaves no two half-edges that could be paired.
-use Rattle.std.proofs.Common.{◌≡◌, ℕ, zero, suc, ◌+◌, ◌-◌, ◌<◌, ◌≤◌, Bool, true, false, cond, ◌&&◌, ◌≢◌, ◌⊎◌, List, length, get_or, set, Some, None, Option, sym, refl, ap, ◌∙◌, subst, inl, inr, add-one, arith}
+use Rattle.std.proofs.Common.{◌≡◌, ℕ, zero, suc, ◌+◌, ◌-◌, ◌<◌, ◌≤◌, Bool, true, false, cond, ◌&&◌, ◌≢◌, ◌⊎◌, List, length, get_or, set, Some, None, Option, sym, refl, ap, ◌∙◌, subst, inl, inr, arith}
 use Rattle.std.proofs.lemmas.List.{length-set, length-replicate, get_or-replicate, get_or-set_same, get_or-set_other, get_or_past}
 use Rattle.std.proofs.lemmas.Bool.Decides.{nat_tests}
 use Rattle.std.proofs.lemmas.Grind.{common_steps}
 use Rattle.std.proofs.lemmas.Bool.{cases_Bool, and_left, and_right, eqb-true, cases_eq, cases_lt, cond-false}
+use Rattle.std.specs.List.{find, range_with_len}
 use Rattle.mesh.specs.HalfEdges.{next}
 use Rattle.mesh.specs.Stored.{no_twin, against}
 use Rattle.mesh.proofs.StoredRules.{Mutual}
@@ -28,11 +29,11 @@ unfolding mate
 mate_is start twins h g e = let (a, b, d) = lowest_is (suits start twins h) (length twins) 0 g e in (a, omega arith)
 
 -- a turn, by whether its half-edge has a twin
-pub paired_before : (start : ℕ → ℕ) (twins : List ℕ) (h : ℕ) → (get_or twins h 0 ≡ no_twin → ⊥) → twins ≡ pair_one start twins h
+paired_before : (start : ℕ → ℕ) (twins : List ℕ) (h : ℕ) → (get_or twins h 0 ≡ no_twin → ⊥) → twins ≡ pair_one start twins h
 unfolding pair_one
 paired_before start twins h n = grind (arith, nat_tests)
 
-pub paired_as : (start : ℕ → ℕ) (twins : List ℕ) (h : ℕ) (o : Option ℕ) → get_or twins h 0 ≡ no_twin → mate start twins h ≡ o → joined twins h o ≡ pair_one start twins h
+paired_as : (start : ℕ → ℕ) (twins : List ℕ) (h : ℕ) (o : Option ℕ) → get_or twins h 0 ≡ no_twin → mate start twins h ≡ o → joined twins h o ≡ pair_one start twins h
 unfolding pair_one
 paired_as start twins h o f e = grind (arith, nat_tests)
 
@@ -126,26 +127,15 @@ module _ (start : ℕ → ℕ) (n : ℕ) (apart : Apart start n) where
       let e = length_below k in
       one_keeps (pair_below start n k) (omega arith) e (below_keeps k few (omega arith)) k (omega arith)
 
--- the hunt, number by number
-pub lowest_more : (test : ℕ → Bool) (n g : ℕ) → g < n → lowest test (n - g) g ≡ cond (test g) (Some g) (lowest test (n - (g + 1)) (g + 1))
-lowest_more test n g h = let e : n - g ≡ suc (n - (g + 1)) = omega arith in ap (λ c. lowest test c g) e
+-- the hunt is a search of the numbers from k up
+pub lowest_found : (test : ℕ → Bool) (count k : ℕ) → find test (range_with_len k count) ≡ lowest test count k
+lowest_found test zero k = refl
+lowest_found test (suc count) k = ap (cond (test k) (Some k)) (lowest_found test count (k + 1))
 
-pub lowest_found : (test : ℕ → Bool) (n g : ℕ) (o : Option ℕ) → g < n → test g ≡ true → lowest test (n - g) g ≡ o → Some g ≡ o
-lowest_found test n g o h t e = let m = lowest_more test n g h in grind (arith, nat_tests)
-
-pub lowest_past : (test : ℕ → Bool) (n g : ℕ) (o : Option ℕ) → g < n → test g ≡ false → lowest test (n - g) g ≡ o → lowest test (n - (g + 1)) (g + 1) ≡ o
-lowest_past test n g o h t e = let m = lowest_more test n g h in grind (arith, nat_tests)
-
-pub lowest_none : (test : ℕ → Bool) (n g : ℕ) (o : Option ℕ) → n ≤ g → lowest test (n - g) g ≡ o → None ≡ o
-lowest_none test n g o h e = let z : n - g ≡ 0 = omega arith in sym (ap (λ c. lowest test c g) z) ∙ e
-
-pub below_more : (start : ℕ → ℕ) (n k : ℕ) (old new : List ℕ) → old ≡ pair_below start n k → new ≡ pair_one start old k → new ≡ pair_below start n (k + 1)
-below_more start n k old new e f = f ∙ ap (λ t. pair_one start t k) e ∙ ap (pair_below start n) (sym (add-one k))
-
-pub paired_now : (start : ℕ → ℕ) (twins : List ℕ) (h g : ℕ) → get_or twins h 0 ≡ no_twin → mate start twins h ≡ Some g → set (set twins h g) g h ≡ pair_one start twins h
+paired_now : (start : ℕ → ℕ) (twins : List ℕ) (h g : ℕ) → get_or twins h 0 ≡ no_twin → mate start twins h ≡ Some g → set (set twins h g) g h ≡ pair_one start twins h
 paired_now start twins h g f e = paired_as start twins h (Some g) f e
 
-pub paired_none : (start : ℕ → ℕ) (twins : List ℕ) (h : ℕ) → get_or twins h 0 ≡ no_twin → mate start twins h ≡ None → twins ≡ pair_one start twins h
+paired_none : (start : ℕ → ℕ) (twins : List ℕ) (h : ℕ) → get_or twins h 0 ≡ no_twin → mate start twins h ≡ None → twins ≡ pair_one start twins h
 paired_none start twins h f e = paired_as start twins h None f e
 
 -- every number below g fails, so the hunt may begin at g

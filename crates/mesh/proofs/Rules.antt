@@ -1,6 +1,6 @@
 -- What follows from the rules of a mesh, and how next goes round a triangle.
-use Rattle.std.proofs.Common.{◌≡◌, ℕ, ◌*◌, ◌/◌, ◌<◌, ◌≤◌, true, ◌⊎◌, Some, None, sym, ap, ◌∙◌, inl, inr, arith}
-use Rattle.std.proofs.lemmas.Bool.{cases_eq, true_from_ne_false}
+use Rattle.std.proofs.Common.{min, ◌≡◌, ℕ, ◌*◌, ◌/◌, ◌<◌, ◌≤◌, true, ◌⊎◌, Some, None, sym, ap, ◌∙◌, inl, inr, arith}
+use Rattle.std.proofs.lemmas.Bool.{cases_lt, cases_eq, true_from_ne_false}
 use Rattle.mesh.specs.HalfEdges.{next, Turns}
 use Rattle.mesh.specs.Model.{MeshModel, Lawful, TwinsStand}
 
@@ -12,6 +12,13 @@ turns = record {
   moves = λ h e. omega arith;
   comes_back = λ h. omega arith;
 }
+
+-- where all numbers past every mesh get one reply, the highest number may be asked about in place of a higher one
+pub capped : {A : Type 0} (reply : ℕ → A) (past : A) → ((h : ℕ) → 196608 ≤ h → reply h ≡ past) → (h : ℕ) → reply (min h 4294967295) ≡ reply h
+capped reply past far h = elim (cases_lt h 4294967296) [
+  | inl l ↦ ap reply (omega arith)
+  | inr l ↦ far (min h 4294967295) (omega arith) ∙ sym (far h (omega arith))
+]
 
 module _ (m : MeshModel) (l : Lawful m) where
   pub twin_present : (h g : ℕ) → m.twin h ≡ Some g → m.present (h / 3) ≡ true

@@ -6,7 +6,7 @@ use Rattle.meshes.specs.declared.stored.StoredMesh.{StoredMesh}
 use Rattle.meshes.specs.declared.grid.DepthGrid.{DepthGrid}
 
 abbrev pub stored_of : StoredMesh → MeshModel
-stored_of s = stored s.points.now s.triangles.now s.twins.now
+stored_of s = stored s.set.points.now s.set.triangles.now s.twins.now
 
 abbrev pub grid_of : DepthGrid → MeshModel
 grid_of s = grid s.columns s.rows s.pitch s.readings.now

@@ -1,11 +1,13 @@
 // A mesh over depth readings.
 mod making;
 pub mod replies;
+mod side;
 
 ghost use Rattle.std.specs.Prelude.{◌≡◌, true};
 ghost use Rattle.mesh.specs.Grid.{grid_fits};
+ghost use Rattle.mesh.proofs.GridRules.{Limits};
 
-// The settings and the readings are in limits, so the mesh over them keeps the rules.
+// The settings and the readings are in limits, so the mesh over them keeps the rules; `limits` says what follows.
 #[derive(Drop)]
 pub struct DepthGrid<'a> {
     columns: u32,
@@ -13,4 +15,5 @@ pub struct DepthGrid<'a> {
     pitch: u32,
     readings: &'a [u16],
     ghost fitting: { grid_fits columns rows pitch readings.now ≡ true },
+    ghost limits: { Limits columns rows pitch readings.now },
 }

@@ -2,8 +2,8 @@
 // grid over readings; a mirrored mesh over any mesh. What each means is in crate mesh and in docs/MESHES.md.
 #![tactic(auto)]
 
+mod fitting;
 mod grid;
-mod lists;
 mod mirrored;
 mod pairing;
 mod refusal;

@@ -1,9 +1,9 @@
 // A mesh seen in a mirror: left and right change places, and the triangles still face the viewer.
-ghost use Rattle.std.specs.Prelude.{◌≡◌, ◌<◌, ◌≤◌, unsigned_abs};
+ghost use Rattle.std.specs.Prelude.{◌≡◌, ◌≤◌, min, unsigned_abs};
 ghost use Rattle.mesh.specs.Mirror.{mirror, flip as flip_of, opposite as opposite_of};
 ghost use Rattle.mesh.proofs.MirrorRules.{mirror_lawful};
 
-use mesh::{Mesh, PAST_HALF_EDGES, Point, end_of};
+use mesh::{Mesh, Point, end_of};
 
 // The mirror image of the mesh below.
 #[derive(Drop)]
@@ -19,23 +19,18 @@ impl<'a, M: Mesh> Mirrored<'a, M> {
     }
 }
 
-// 3t + k becomes 3t + 2 − k.
+// 3t + k becomes 3t + 2 − k. The highest number is no half-edge of any mesh, and stays.
 fn flip(h: u32) -> u32
-    requires { h < 196608 }
-    ensures { result ≡ flip_of h }
+    ensures { result ≡ min (flip_of h) 4294967295 }
 {
-    3 * (h / 3) + (2 - h % 3)
+    (3 * (h / 3)).saturating_add(2 - h % 3)
 }
 
 fn opposite(p: Point) -> Point
     requires { unsigned_abs p.x ≤ 10000 }
     ensures { result ≡ opposite_of p }
 {
-    Point {
-        x: -p.x,
-        y: p.y,
-        z: p.z,
-    }
+    Point { x: -p.x, ..p }
 }
 
 impl<'a, M: Mesh> Mesh for Mirrored<'a, M> {
@@ -56,9 +51,6 @@ impl<'a, M: Mesh> Mesh for Mirrored<'a, M> {
     }
 
     fn start(&self, h: u32) -> u32 {
-        if h >= PAST_HALF_EDGES {
-            return 0;
-        }
         end_of(self.below, flip(h))
     }
 
@@ -67,12 +59,6 @@ impl<'a, M: Mesh> Mesh for Mirrored<'a, M> {
     }
 
     fn twin(&self, h: u32) -> Option<u32> {
-        if h >= PAST_HALF_EDGES {
-            return None;
-        }
-        match self.below.twin(flip(h)) {
-            None => None,
-            Some(g) => Some(flip(g)),
-        }
+        self.below.twin(flip(h)).map(flip)
     }
 }

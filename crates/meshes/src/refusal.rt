@@ -1,6 +1,9 @@
 // Why a mesh is not made.
-ghost use Rattle.std.specs.Prelude.{◌≡◌};
-ghost use Rattle.meshes.specs.Refusals.{number_of};
+ghost use Rattle.std.specs.Prelude.{◌≡◌, Some};
+ghost use Rattle.meshes.specs.Refusals.{number_of, question_of};
+
+use std::error::Error;
+use std::fmt;
 
 // The question that was answered with no.
 #[derive(Clone, Copy, Debug, PartialEq, Eq)]
@@ -22,3 +25,23 @@ impl MeshRefusal {
         }
     }
 }
+
+// The question itself.
+impl fmt::Display for MeshRefusal {
+    ghost output = { λ refusal. Some (question_of refusal) };
+
+    fn fmt<W: fmt::Write>(&self, f: &mut fmt::Formatter<W>) -> fmt::Result {
+        match self {
+            MeshRefusal::Grid => write!(
+                f,
+                "are the grid's columns, rows and pitch in limits, with one reading for each point, each at most 10000?"
+            ),
+            MeshRefusal::Lists => write!(
+                f,
+                "do the lists keep the limits and the rules of a mesh?"
+            ),
+        }
+    }
+}
+
+impl Error for MeshRefusal {}

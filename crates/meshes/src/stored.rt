@@ -5,13 +5,12 @@ pub mod replies;
 ghost use Rattle.std.specs.Prelude.{◌≡◌, true};
 ghost use Rattle.mesh.specs.Stored.{stored_fits};
 
-use mesh::{Point, Triangle};
+use crate::fitting::FittingSet;
 
 // The lists keep the limits and the rules, so the mesh over them does.
 #[derive(Drop)]
 pub struct StoredMesh<'a> {
-    points: &'a [Point],
-    triangles: &'a [Triangle],
+    set: FittingSet<'a>,
     twins: &'a [u32],
-    ghost fitting: { stored_fits points.now triangles.now twins.now ≡ true },
+    ghost fitting: { stored_fits set.points.now set.triangles.now twins.now ≡ true },
 }

@@ -1,7 +1,7 @@
 // A depth grid is made by filling one that the caller holds.
-ghost use Rattle.std.specs.Prelude.{◌≡◌, false, [], ◌∷◌, if◌then◌else◌, Ok, Err};
+ghost use Rattle.std.specs.Prelude.{◌≡◌, false, [], ◌∷◌, if◌then◌else◌, is_some, IfSome, Ok, Err};
 ghost use Rattle.std.specs.List.{list_all};
-ghost use Rattle.mesh.specs.Grid.{grid, grid_fits, small, within};
+ghost use Rattle.mesh.specs.Grid.{grid, grid_fits, small};
 ghost use Rattle.meshes.specs.Refusals.{told};
 ghost use Rattle.meshes.specs.Views.{grid_of};
 
@@ -14,40 +14,23 @@ const READING_LIMIT: u16 = 10_000;
 fn all_small(readings: &[u16]) -> bool
     ensures { result ≡ list_all small readings.now }
 {
-    for &x in readings {
-        if x > READING_LIMIT {
-            return false;
-        }
-    }
-    true
+    readings.iter().all(|&x| x <= READING_LIMIT)
 }
 
-fn is_within(low: u32, high: u32, n: u32) -> bool
-    ensures { result ≡ within low high n }
-{
-    low <= n && n <= high
-}
-
+#[tactic(auto, unfolding(mesh::specs::Grid::grid_fits))]
 fn fits(columns: u32, rows: u32, pitch: u32, readings: &[u16]) -> bool
     ensures { result ≡ grid_fits columns rows pitch readings.now }
 {
-    if !is_within(2, 181, columns) {
-        return false;
-    }
-    if !is_within(2, 181, rows) {
-        return false;
-    }
-    if !is_within(1, 55, pitch) {
-        return false;
-    }
-    if readings.len() != (columns * rows) as usize {
-        return false;
-    }
-    all_small(readings)
+    (2..=181).contains(&columns)
+        && (2..=181).contains(&rows)
+        && (1..=55).contains(&pitch)
+        && readings.len() == (columns * rows) as usize
+        && all_small(readings)
 }
 
 impl<'a> DepthGrid<'a> {
     // One to fill: two rows of two missing readings.
+    #[tactic(auto, unfolding(mesh::specs::Grid::grid_fits))]
     pub fn empty() -> DepthGrid<'a>
         ensures { grid_of result ≡ grid 2 2 1 (0 ∷ 0 ∷ 0 ∷ 0 ∷ []) }
     {
@@ -56,6 +39,22 @@ impl<'a> DepthGrid<'a> {
             rows: 2,
             pitch: 1,
             readings: &[0, 0, 0, 0],
+        }
+    }
+
+    fn new(columns: u32, rows: u32, pitch: u32, readings: &'a [u16]) -> Option<DepthGrid<'a>>
+        ensures fits { is_some result ≡ grid_fits columns rows pitch readings.now }
+        ensures means { IfSome result (λ mesh. grid_of mesh ≡ grid columns rows pitch readings.now) }
+    {
+        if fits(columns, rows, pitch, readings) {
+            Some(DepthGrid {
+                columns,
+                rows,
+                pitch,
+                readings,
+            })
+        } else {
+            None
         }
     }
 
@@ -71,15 +70,7 @@ impl<'a> DepthGrid<'a> {
         ensures means { grid_of self.new ≡ (if grid_fits columns rows pitch readings.now then grid columns rows pitch readings.now else grid_of self.old) }
         ensures kept { grid_fits columns rows pitch readings.now ≡ false → self.new ≡ self.old }
     {
-        if !fits(columns, rows, pitch, readings) {
-            return Err(MeshRefusal::Grid);
-        }
-        *self = DepthGrid {
-            columns,
-            rows,
-            pitch,
-            readings,
-        };
+        *self = DepthGrid::new(columns, rows, pitch, readings).ok_or(MeshRefusal::Grid)?;
         Ok(())
     }
 }

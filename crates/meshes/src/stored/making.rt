@@ -1,67 +1,61 @@
 // A stored mesh is made by filling one that the caller holds.
-ghost use Rattle.std.specs.Prelude.{◌≡◌, ◌<◌, ◌≤◌, false, [], length, if◌then◌else◌, Ok, Err};
+ghost use Rattle.std.specs.Prelude.{◌≡◌, ◌*◌, false, [], length, if◌then◌else◌, is_some, IfSome, Ok, Err};
 ghost use Rattle.mesh.specs.Every.{every_below};
-ghost use Rattle.mesh.specs.Stored.{stored, stored_fits, twin_kept};
+ghost use Rattle.mesh.specs.Stored.{stored, stored_fits, answered as is_answered, twin_kept};
 ghost use Rattle.meshes.specs.Refusals.{told};
 ghost use Rattle.meshes.specs.Views.{stored_of};
 
 use super::StoredMesh;
-use crate::lists::{fit_with_twins, start_of};
+use crate::fitting::FittingSet;
 use crate::refusal::MeshRefusal;
-use mesh::{NO_TWIN, Point, Triangle, next};
+use mesh::{NO_TWIN, Point, Triangle};
 
-// Whether half-edge `h` has no twin, or one that has it as its own twin and runs the other way.
-fn twin_stands(triangles: &[Triangle], twins: &[u32], h: u32) -> bool
-    requires few { length twins.now ≤ 196608 }
-    requires at { h < length twins.now }
-    ensures { result ≡ twin_kept triangles.now twins.now h }
-{
-    let g = twins[h as usize];
-    if g == NO_TWIN {
-        return true;
+impl FittingSet<'_> {
+    // Whether half-edge `g` has `h` as its twin, and runs the other way.
+    fn answered(&self, twins: &[u32], h: u32, g: u32) -> bool
+        ensures { result ≡ is_answered self.now.triangles.now twins.now h g }
+    {
+        twins.get(g as usize) == Some(&h) && self.against(h, g)
     }
-    if g as usize >= twins.len() {
-        return false;
-    }
-    if twins[g as usize] != h {
-        return false;
-    }
-    if start_of(triangles, g) != start_of(triangles, next(h)) {
-        return false;
-    }
-    start_of(triangles, next(g)) == start_of(triangles, h)
-}
 
-fn all_stand(triangles: &[Triangle], twins: &[u32]) -> bool
-    requires few { length twins.now ≤ 196608 }
-    ensures { result ≡ every_below (twin_kept triangles.now twins.now) (length twins.now) }
-{
-    for h in 0..twins.len() as u32 {
-        if !twin_stands(triangles, twins, h) {
-            return false;
-        }
+    // Whether every half-edge has no twin, or a right one.
+    fn twins_stand(&self, twins: &[u32]) -> bool
+        requires { length twins.now ≡ 3 * length self.now.triangles.now }
+        ensures { result ≡ every_below (twin_kept self.now.triangles.now twins.now) (length twins.now) }
+    {
+        twins.iter().enumerate().all(|(h, &g)| g == NO_TWIN || self.answered(twins, h as u32, g))
     }
-    true
-}
-
-fn fits(points: &[Point], triangles: &[Triangle], twins: &[u32]) -> bool
-    ensures { result ≡ stored_fits points.now triangles.now twins.now }
-{
-    if !fit_with_twins(points, triangles, twins) {
-        return false;
-    }
-    all_stand(triangles, twins)
 }
 
 impl<'a> StoredMesh<'a> {
     // One to fill: no points and no triangles.
+    #[tactic(auto, unfolding(mesh::specs::Stored::set_fits, mesh::specs::Stored::lists_fit, mesh::specs::Stored::stored_fits))]
     pub fn empty() -> StoredMesh<'a>
         ensures { stored_of result ≡ stored [] [] [] }
     {
         StoredMesh {
-            points: &[],
-            triangles: &[],
+            set: FittingSet {
+                points: &[],
+                triangles: &[],
+            },
             twins: &[],
+        }
+    }
+
+    #[tactic(auto, unfolding(mesh::specs::Stored::stored_fits))]
+    fn new(
+        points: &'a [Point],
+        triangles: &'a [Triangle],
+        twins: &'a [u32],
+    ) -> Option<StoredMesh<'a>>
+        ensures fits { is_some result ≡ stored_fits points.now triangles.now twins.now }
+        ensures means { IfSome result (λ mesh. stored_of mesh ≡ stored points.now triangles.now twins.now) }
+    {
+        let set = FittingSet::new(points, triangles, twins)?;
+        if set.twins_stand(twins) {
+            Some(StoredMesh { set, twins })
+        } else {
+            None
         }
     }
 
@@ -76,14 +70,7 @@ impl<'a> StoredMesh<'a> {
         ensures means { stored_of self.new ≡ (if stored_fits points.now triangles.now twins.now then stored points.now triangles.now twins.now else stored_of self.old) }
         ensures kept { stored_fits points.now triangles.now twins.now ≡ false → self.new ≡ self.old }
     {
-        if !fits(points, triangles, twins) {
-            return Err(MeshRefusal::Lists);
-        }
-        *self = StoredMesh {
-            points,
-            triangles,
-            twins,
-        };
+        *self = StoredMesh::new(points, triangles, twins).ok_or(MeshRefusal::Lists)?;
         Ok(())
     }
 }

@@ -1,7 +1,0 @@
-use Rattle.std.proofs.Common.{◌≡◌, length}
-use Rattle.mesh.specs.Stored.{stored_start}
-use Rattle.mesh.specs.Pairing.{pair_below}
-use Rattle.meshes.proofs.pairing.pair_all.Given as goal
-
-abbrev pub invariant-loop-h : goal.invariant-loop-h
-invariant-loop-h l = l.twins ≡ pair_below (stored_start l.triangles) (length l.twins) l.h
