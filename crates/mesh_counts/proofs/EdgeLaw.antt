@@ -1,5 +1,9 @@
 -- Edges add up to half-edges: as many half-edges have a lower twin as have a higher one, since twins are mutual.
-use Rattle.std.proofs.Common.{◌≡◌, ℕ, zero, suc, ◌+◌, ◌*◌, ◌/◌, ◌<◌, ◌≤◌, Bool, true, false, cond, eqb, ltb, ◌⊎◌, Some, None, Option, sym, refl, ap, ◌∙◌, inl, inr, arith}
+use Rattle.std.proofs.Common.{◌≡◌, ℕ, zero, suc, ◌+◌, ◌*◌, ◌/◌, ◌<◌, ◌≤◌, Bool, true, false, cond, eqb, ltb, ◌⊎◌, Some, None, Option, List, [], ◌∷◌, length, sym, refl, ap, ◌∙◌, inl, inr, arith}
+use Rattle.std.specs.List.{fold, range_with_len}
+use Rattle.std.specs.Iterator.{Yields}
+use Rattle.std.specs.declared.ops.Range.{Range}
+use Rattle.std.proofs.iter.Yields.{nat_range_steps}
 use Rattle.std.proofs.lemmas.Bool.{cases_lt, eqb-true, eq-eqb, lt-ltb, le-ltb, cond-true, cond-false}
 use Rattle.mesh.specs.Model.{MeshModel, Lawful}
 use Rattle.mesh.proofs.Rules.{twin_present, twin_inside, twins_stand}
@@ -123,33 +127,27 @@ module _ (m : MeshModel) (l : Lawful m) where
       let d = three_each t in
       ap (total (λ h. one_if (m.present (h / 3)))) e ∙ omega arith
 
--- the counts stay below the number of half-edges
-at_most : (f : ℕ → ℕ) → ((k : ℕ) → f k ≤ 1) → (n : ℕ) → total f n ≤ n
-at_most f b zero = omega arith
-at_most f b (suc n) = let a = at_most f b n in let c = b n in omega arith
-
-one_at_most : (b : Bool) → one_if b ≤ 1
-one_at_most true = omega arith
-one_at_most false = omega arith
-
-pub few_shared : (m : MeshModel) → Lawful m → (n : ℕ) → (edges_below m n).shared ≤ n
-few_shared m l n = let e = shared_is m l n in let a = at_most (λ h. lower (m.twin h) h) (λ k. go (m.twin k) k) n in omega arith
+-- one half-edge adds one at most
+pub few_more : (m : MeshModel) (h n : ℕ) (e : Edges) → e.shared ≤ n → e.border ≤ n → ((counted m h e).shared ≤ n + 1) × ((counted m h e).border ≤ n + 1)
+few_more m h n e s b = go (m.present (h / 3)) (m.twin h)
   where
-    go : (o : Option ℕ) (k : ℕ) → lower o k ≤ 1
-    go None k = omega arith
-    go (Some g) k = one_at_most (ltb g k)
+    go : (p : Bool) (o : Option ℕ) → ((cond p (by_twin o h e) e).shared ≤ n + 1) × ((cond p (by_twin o h e) e).border ≤ n + 1)
+    go false o = grind arith
+    go true None = grind arith
+    go true (Some g) = grind arith
 
-pub few_border : (m : MeshModel) → Lawful m → (n : ℕ) → (edges_below m n).border ≤ n
-few_border m l n = let e = border_is m l n in let a = at_most (λ h. cond (m.present (h / 3)) (alone (m.twin h)) 0) (λ k. go (m.present (k / 3)) (m.twin k)) n in omega arith
-  where
-    go : (b : Bool) (o : Option ℕ) → cond b (alone o) 0 ≤ 1
-    go true None = omega arith
-    go true (Some g) = omega arith
-    go false o = omega arith
+-- counting on from half-edge a
+pub edges_folded : (m : MeshModel) (a n : ℕ) → fold (λ e h. counted m h e) (edges_below m a) (range_with_len a n) ≡ edges_below m (a + n)
+edges_folded m a zero = let e : a ≡ a + 0 = omega arith in ap (edges_below m) e
+edges_folded m a (suc n) =
+    let s : suc a ≡ a + 1 = omega arith in
+    let t : a + 1 + n ≡ a + suc n = omega arith in
+    ap (λ k. fold (λ e h. counted m h e) (edges_below m k) (range_with_len (a + 1) n)) s ∙ edges_folded m (a + 1) n ∙ ap (edges_below m) t
 
--- one more turn of the loop
-pub edges_more : (m : MeshModel) (n : ℕ) (old new : Edges) → old ≡ edges_below m n → new ≡ counted m n old → new ≡ edges_below m (n + 1)
-edges_more m n old new e f = let s : suc n ≡ n + 1 = omega arith in f ∙ ap (counted m n) e ∙ ap (edges_below m) s
+-- the numbers of a range that have come, in order
+pub range_taken : (xs : List ℕ) (s t : Range ℕ) → Yields nat_range_steps s xs t → (t.end ≡ s.end) × (t.start ≡ s.start + length xs)
+range_taken [] s t y = (sym (ap (λ k. k.end) y), omega (arith, ap (λ (k : Range ℕ). k.start) y))
+range_taken (x ∷ xs) s t y = let h = range_taken xs y.0 t y.2 in (h.0 ∙ y.1.0, omega (arith, h.1, y.1.1.2))
 
 pub edge_law : EdgeLaw
 edge_law m l =
