@@ -1,10 +1,11 @@
 -- Edges add up to half-edges: as many half-edges have a lower twin as have a higher one, since twins are mutual.
-use Rattle.std.proofs.Common.{◌≡◌, ℕ, zero, suc, ◌+◌, ◌*◌, ◌/◌, ◌<◌, ◌≤◌, Bool, true, false, cond, eqb, ltb, ◌⊎◌, Some, None, Option, List, [], ◌∷◌, length, sym, refl, ap, ◌∙◌, inl, inr, arith}
+use Rattle.std.proofs.Common.{◌≡◌, ℕ, zero, suc, ◌+◌, ◌*◌, ◌/◌, ◌<◌, ◌≤◌, ◌≢◌, Bool, true, false, cond, eqb, ltb, Some, None, Option, List, [], ◌∷◌, length, sym, refl, ap, ◌∙◌, arith}
 use Rattle.std.specs.List.{fold, range_with_len}
 use Rattle.std.specs.Iterator.{Yields}
 use Rattle.std.specs.declared.ops.Range.{Range}
 use Rattle.std.proofs.iter.Yields.{nat_range_steps}
-use Rattle.std.proofs.lemmas.Bool.{cases_lt, eqb-true, eq-eqb, lt-ltb, le-ltb, cond-true, cond-false}
+use Rattle.std.proofs.lemmas.Bool.{eqb-true, eq-eqb}
+use Rattle.std.proofs.lemmas.Bool.Decides.{nat_tests}
 use Rattle.mesh.specs.Model.{MeshModel, Lawful}
 use Rattle.mesh.proofs.Rules.{twin_present, twin_inside, twins_stand}
 use Rattle.mesh_counts.specs.declared.edges.Edges.{Edges}
@@ -33,7 +34,7 @@ abbrev one_if : Bool → ℕ
 one_if b = cond b 1 0
 
 is_named : (o : Option ℕ) (g : ℕ) → names o g ≡ true → o ≡ Some g
-is_named None g e = let z : ◌≡◌ {A = ℕ} 0 1 = cc in absurd (omega arith)
+is_named None g e = grind arith
 is_named (Some x) g e = ap Some (eqb-true x g e)
 
 both : (a b : Bool) → (a ≡ true → b ≡ true) → (b ≡ true → a ≡ true) → a ≡ b
@@ -74,13 +75,9 @@ module _ (m : MeshModel) (l : Lawful m) where
     where
       go : (b : Bool) → m.present (n / 3) ≡ b → (o : Option ℕ) → m.twin n ≡ o → (edges_below m n).shared ≡ total (λ h. lower (m.twin h) h) n → (cond b (by_twin o n (edges_below m n)) (edges_below m n)).shared ≡ total (λ h. lower (m.twin h) h) n + lower o n
       go false p None q e = omega arith
-      go false p (Some g) q e = let t = twin_present m l n g q in let z : ◌≡◌ {A = ℕ} 0 1 = cc in absurd (omega arith)
+      go false p (Some g) q e = let t = twin_present m l n g q in grind arith
       go true p None q e = omega arith
-      go true p (Some g) q e = by (ltb g n)
-        where
-          by : (b : Bool) → (cond b (record { shared = (edges_below m n).shared + 1; border = (edges_below m n).border }) (edges_below m n)).shared ≡ total (λ h. lower (m.twin h) h) n + one_if b
-          by true = omega arith
-          by false = omega arith
+      go true p (Some g) q e = grind arith
 
   border_is : (n : ℕ) → (edges_below m n).border ≡ total (λ h. cond (m.present (h / 3)) (alone (m.twin h)) 0) n
   border_is zero = refl
@@ -89,11 +86,7 @@ module _ (m : MeshModel) (l : Lawful m) where
       go : (b : Bool) (o : Option ℕ) → (edges_below m n).border ≡ total (λ h. cond (m.present (h / 3)) (alone (m.twin h)) 0) n → (cond b (by_twin o n (edges_below m n)) (edges_below m n)).border ≡ total (λ h. cond (m.present (h / 3)) (alone (m.twin h)) 0) n + cond b (alone o) 0
       go false o e = omega arith
       go true None e = omega arith
-      go true (Some g) e = by (ltb g n)
-        where
-          by : (b : Bool) → (cond b (record { shared = (edges_below m n).shared + 1; border = (edges_below m n).border }) (edges_below m n)).border ≡ total (λ h. cond (m.present (h / 3)) (alone (m.twin h)) 0) n + 0
-          by true = omega arith
-          by false = omega arith
+      go true (Some g) e = grind arith
 
   -- a half-edge of a present triangle is one of the three kinds
   kinds : (h : ℕ) → one_if (m.present (h / 3)) ≡ lower (m.twin h) h + cond (m.present (h / 3)) (alone (m.twin h)) 0 + higher (m.twin h) h
@@ -101,20 +94,9 @@ module _ (m : MeshModel) (l : Lawful m) where
     where
       go : (b : Bool) → m.present (h / 3) ≡ b → (o : Option ℕ) → m.twin h ≡ o → one_if b ≡ lower o h + cond b (alone o) 0 + higher o h
       go false p None q = refl
-      go false p (Some g) q = let t = twin_present m l h g q in let z : ◌≡◌ {A = ℕ} 0 1 = cc in absurd (omega arith)
+      go false p (Some g) q = let t = twin_present m l h g q in grind arith
       go true p None q = refl
-      go true p (Some g) q = by (cases_lt g h)
-        where
-          apart : g ≡ h → ⊥
-          apart e = (twins_stand m l h g q).elsewhere (ap (λ x. x / 3) e)
-
-          by : (g < h) ⊎ (h ≤ g) → 1 ≡ one_if (ltb g h) + 0 + one_if (ltb h g)
-          by (inl i) = let a : one_if (ltb g h) ≡ 1 = cond-true (ltb g h) 1 0 (lt-ltb g h i) in let b : one_if (ltb h g) ≡ 0 = cond-false (ltb h g) 1 0 (le-ltb h g (omega arith)) in omega arith
-          by (inr i) = let a : one_if (ltb g h) ≡ 0 = cond-false (ltb g h) 1 0 (le-ltb g h i) in let d : h < g = order (cases_lt h g) in let b : one_if (ltb h g) ≡ 1 = cond-true (ltb h g) 1 0 (lt-ltb h g d) in omega arith
-            where
-              order : (h < g) ⊎ (g ≤ h) → h < g
-              order (inl j) = j
-              order (inr j) = absurd (apart (omega arith))
+      go true p (Some g) q = let apart : g ≢ h = λ e. (twins_stand m l h g q).elsewhere (ap (λ x. x / 3) e) in grind (arith, nat_tests)
 
   three_each : (t : ℕ) → total (λ h. one_if (m.present (h / 3))) (3 * t) ≡ 3 * present_count m t
   three_each zero = refl

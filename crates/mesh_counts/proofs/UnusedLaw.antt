@@ -4,6 +4,7 @@ use Rattle.std.specs.List.{range_with_len}
 use Rattle.std.proofs.lemmas.List.FromFn.{fill_by_all}
 use Rattle.std.proofs.lemmas.List.{length-set, length-replicate, get_or-replicate, get_or-set_same, get_or-set_other}
 use Rattle.std.proofs.lemmas.List.Folds.{fold-map}
+use Rattle.std.proofs.Math.Bool.{or-false}
 use Rattle.std.proofs.lemmas.Bool.{cases_eq, eq-eqb, ne_eqb, or_right}
 use Rattle.mesh.specs.Model.{MeshModel, Lawful}
 use Rattle.mesh_counts.specs.Unused.{marked, used_below, corner_below, UnusedLaw}
@@ -19,10 +20,6 @@ pub length_used : (m : MeshModel) (n : ℕ) → length (used_below m n) ≡ m.po
 length_used m zero = length-replicate m.points false
 length_used m (suc n) = length_marked m n (used_below m n) ∙ length_used m n
 
-or_none : (b : Bool) → (b || false) ≡ b
-or_none true = refl
-or_none false = refl
-
 module _ (m : MeshModel) (l : Lawful m) (p : ℕ) (i : p < m.points) where
   used_is : (n : ℕ) → get_or (used_below m n) p false ≡ corner_below m n p
   used_is zero = get_or-replicate m.points p false false i
@@ -32,7 +29,7 @@ module _ (m : MeshModel) (l : Lawful m) (p : ℕ) (i : p < m.points) where
       size = length_used m n
 
       go : (b : Bool) → m.present (n / 3) ≡ b → get_or (used_below m n) p false ≡ corner_below m n p → get_or (cond b (set (used_below m n) (m.start n) true) (used_below m n)) p false ≡ (corner_below m n p || (b && eqb (m.start n) p))
-      go false q e = e ∙ sym (or_none (corner_below m n p))
+      go false q e = e ∙ sym (or-false (corner_below m n p))
       go true q e = by (cases_eq p (m.start n))
         where
           by : (p ≡ m.start n) ⊎ (p ≡ m.start n → ⊥) → get_or (set (used_below m n) (m.start n) true) p false ≡ (corner_below m n p || eqb (m.start n) p)
@@ -42,7 +39,7 @@ module _ (m : MeshModel) (l : Lawful m) (p : ℕ) (i : p < m.points) where
               ∙ sym (or_right (corner_below m n p) (eqb (m.start n) p) (eq-eqb (m.start n) p (sym s)))
           by (inr s) =
               get_or-set_other (used_below m n) (m.start n) p true false s ∙ e
-              ∙ sym (ap (λ b. corner_below m n p || b) (ne_eqb (m.start n) p (λ t. s (sym t))) ∙ or_none (corner_below m n p))
+              ∙ sym (ap (λ b. corner_below m n p || b) (ne_eqb (m.start n) p (λ t. s (sym t))) ∙ or-false (corner_below m n p))
 
 pub unused_law : UnusedLaw
 unused_law m l =
