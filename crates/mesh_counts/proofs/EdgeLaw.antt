@@ -1,5 +1,6 @@
 -- Edges add up to half-edges: as many half-edges have a lower twin as have a higher one, since twins are mutual.
 use Rattle.std.proofs.Common.{◌≡◌, ℕ, zero, suc, ◌+◌, ◌*◌, ◌/◌, ◌<◌, ◌≤◌, ◌≢◌, Bool, true, false, cond, eqb, ltb, Some, None, Option, List, [], ◌∷◌, length, sym, refl, ap, ◌∙◌, arith}
+use Rattle.std.specs.Cmp.{both_ways}
 use Rattle.std.specs.List.{fold, range_with_len}
 use Rattle.std.specs.Iterator.{Yields}
 use Rattle.std.specs.declared.ops.Range.{Range}
@@ -37,11 +38,6 @@ is_named : (o : Option ℕ) (g : ℕ) → names o g ≡ true → o ≡ Some g
 is_named None g e = grind arith
 is_named (Some x) g e = ap Some (eqb-true x g e)
 
-both : (a b : Bool) → (a ≡ true → b ≡ true) → (b ≡ true → a ≡ true) → a ≡ b
-both true b f g = sym (f refl)
-both false true f g = g refl
-both false false f g = refl
-
 -- one twin at most is named, and its number is in range
 pick : (o : Option ℕ) (n : ℕ) (f : ℕ → ℕ) → ((g : ℕ) → o ≡ Some g → g < n) → (v : ℕ) → ((g : ℕ) → o ≡ Some g → f g ≡ v) → (o ≡ None → v ≡ 0) → total (λ g. cond (names o g) (f g) 0) n ≡ v
 pick None n f i v s z = total_none n ∙ sym (z refl)
@@ -49,7 +45,7 @@ pick (Some x) n f i v s z = total_one f x n (i x refl) ∙ s x refl
 
 module _ (m : MeshModel) (l : Lawful m) where
   each_other : (h g : ℕ) → names (m.twin h) g ≡ names (m.twin g) h
-  each_other h g = both (names (m.twin h) g) (names (m.twin g) h) (turn h g) (turn g h)
+  each_other h g = both_ways (names (m.twin h) g) (names (m.twin g) h) (turn h g) (turn g h)
     where
       turn : (h g : ℕ) → names (m.twin h) g ≡ true → names (m.twin g) h ≡ true
       turn h g e = ap (λ o. names o h) (l.back h g (is_named (m.twin h) g e)) ∙ eq-eqb h h refl
@@ -111,12 +107,11 @@ module _ (m : MeshModel) (l : Lawful m) where
 
 -- one half-edge adds one at most
 pub few_more : (m : MeshModel) (h n : ℕ) (e : Edges) → e.shared ≤ n → e.border ≤ n → ((counted m h e).shared ≤ n + 1) × ((counted m h e).border ≤ n + 1)
-few_more m h n e s b = go (m.present (h / 3)) (m.twin h)
+few_more m h n e s b = go (m.twin h)
   where
-    go : (p : Bool) (o : Option ℕ) → ((cond p (by_twin o h e) e).shared ≤ n + 1) × ((cond p (by_twin o h e) e).border ≤ n + 1)
-    go false o = grind arith
-    go true None = grind arith
-    go true (Some g) = grind arith
+    go : (o : Option ℕ) → ((cond (m.present (h / 3)) (by_twin o h e) e).shared ≤ n + 1) × ((cond (m.present (h / 3)) (by_twin o h e) e).border ≤ n + 1)
+    go None = grind arith
+    go (Some g) = grind arith
 
 -- counting on from half-edge a
 pub edges_folded : (m : MeshModel) (a n : ℕ) → fold (λ e h. counted m h e) (edges_below m a) (range_with_len a n) ≡ edges_below m (a + n)

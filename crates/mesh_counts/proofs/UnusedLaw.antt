@@ -2,19 +2,17 @@
 use Rattle.std.proofs.Common.{◌≡◌, ℕ, zero, suc, ◌+◌, ◌*◌, ◌/◌, ◌<◌, Bool, true, false, cond, not, ◌&&◌, ◌||◌, eqb, ◌⊎◌, List, length, get_or, set, count_by, sym, refl, ap, ◌∙◌, inl, inr, arith}
 use Rattle.std.specs.List.{range_with_len}
 use Rattle.std.proofs.lemmas.List.FromFn.{fill_by_all}
-use Rattle.std.proofs.lemmas.List.{length-set, length-replicate, get_or-replicate, get_or-set_same, get_or-set_other}
+use Rattle.std.proofs.lemmas.List.{length-replicate, get_or-replicate}
 use Rattle.std.proofs.lemmas.List.Folds.{fold-map}
+use Rattle.std.proofs.lemmas.Bool.Decides.{nat_tests}
+use Rattle.std.proofs.lemmas.Grind.{common_steps}
 use Rattle.std.proofs.Math.Bool.{or-false}
-use Rattle.std.proofs.lemmas.Bool.{cases_eq, eq-eqb, ne_eqb, or_right}
+use Rattle.std.proofs.lemmas.Bool.{cases_eq, or_right}
 use Rattle.mesh.specs.Model.{MeshModel, Lawful}
 use Rattle.mesh_counts.specs.Unused.{marked, used_below, corner_below, UnusedLaw}
 
 pub length_marked : (m : MeshModel) (h : ℕ) (used : List Bool) → length (marked m h used) ≡ length used
-length_marked m h used = go (m.present (h / 3))
-  where
-    go : (b : Bool) → length (cond b (set used (m.start h) true) used) ≡ length used
-    go true = length-set used (m.start h) true
-    go false = refl
+length_marked m h used = grind (arith, common_steps)
 
 pub length_used : (m : MeshModel) (n : ℕ) → length (used_below m n) ≡ m.points
 length_used m zero = length-replicate m.points false
@@ -30,16 +28,11 @@ module _ (m : MeshModel) (l : Lawful m) (p : ℕ) (i : p < m.points) where
 
       go : (b : Bool) → m.present (n / 3) ≡ b → get_or (used_below m n) p false ≡ corner_below m n p → get_or (cond b (set (used_below m n) (m.start n) true) (used_below m n)) p false ≡ (corner_below m n p || (b && eqb (m.start n) p))
       go false q e = e ∙ sym (or-false (corner_below m n p))
-      go true q e = by (cases_eq p (m.start n))
+      go true q e = let i = l.corner n q in by (cases_eq p (m.start n))
         where
           by : (p ≡ m.start n) ⊎ (p ≡ m.start n → ⊥) → get_or (set (used_below m n) (m.start n) true) p false ≡ (corner_below m n p || eqb (m.start n) p)
-          by (inl s) =
-              ap (λ x. get_or (set (used_below m n) (m.start n) true) x false) s
-              ∙ get_or-set_same (used_below m n) (m.start n) true false (omega (arith, size, l.corner n q))
-              ∙ sym (or_right (corner_below m n p) (eqb (m.start n) p) (eq-eqb (m.start n) p (sym s)))
-          by (inr s) =
-              get_or-set_other (used_below m n) (m.start n) p true false s ∙ e
-              ∙ sym (ap (λ b. corner_below m n p || b) (ne_eqb (m.start n) p (λ t. s (sym t))) ∙ or-false (corner_below m n p))
+          by (inl s) = grind (arith, common_steps, nat_tests, size, l.corner n q, or_right)
+          by (inr s) = grind (arith, common_steps, nat_tests, or-false)
 
 pub unused_law : UnusedLaw
 unused_law m l =
