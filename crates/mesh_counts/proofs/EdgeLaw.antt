@@ -1,16 +1,11 @@
 -- Edges add up to half-edges: as many half-edges have a lower twin as have a higher one, since twins are mutual.
-use Rattle.std.proofs.Common.{◌≡◌, ℕ, zero, suc, ◌+◌, ◌*◌, ◌/◌, ◌<◌, ◌≤◌, ◌≢◌, Bool, true, false, cond, eqb, ltb, Some, None, Option, List, [], ◌∷◌, length, sym, refl, ap, ◌∙◌, arith}
+use Rattle.std.proofs.Common.{◌≡◌, ℕ, zero, suc, ◌+◌, ◌*◌, ◌/◌, ◌<◌, ◌≢◌, Bool, true, false, cond, eqb, ltb, Some, None, Option, sym, refl, ap, ◌∙◌, arith}
 use Rattle.std.specs.Cmp.{both_ways}
-use Rattle.std.specs.List.{fold, range_with_len}
-use Rattle.std.specs.Iterator.{Yields}
-use Rattle.std.specs.declared.ops.Range.{Range}
-use Rattle.std.proofs.iter.Yields.{nat_range_steps}
 use Rattle.std.proofs.lemmas.Bool.{eqb-true, eq-eqb}
 use Rattle.std.proofs.lemmas.Bool.Decides.{nat_tests}
 use Rattle.mesh.specs.Model.{MeshModel, Lawful}
 use Rattle.mesh.proofs.Rules.{twin_present, twin_inside, twins_stand}
-use Rattle.mesh_counts.specs.declared.edges.Edges.{Edges}
-use Rattle.mesh_counts.specs.Edges.{by_twin, counted, edges_below, present_count, EdgeLaw}
+use Rattle.mesh_counts.specs.Edges.{by_twin, edges_below, present_count, EdgeLaw}
 use Rattle.mesh_counts.proofs.Totals.{total, total_same, total_plus, total_none, total_swap, total_one}
 
 -- the twin is the half-edge g
@@ -50,19 +45,16 @@ module _ (m : MeshModel) (l : Lawful m) where
       turn : (h g : ℕ) → names (m.twin h) g ≡ true → names (m.twin g) h ≡ true
       turn h g e = ap (λ o. names o h) (l.back h g (is_named (m.twin h) g e)) ∙ eq-eqb h h refl
 
-  inside : (h g : ℕ) → m.twin h ≡ Some g → g < 3 * m.triangles
-  inside h g e = twin_inside m l h g e
-
   -- both count the pairs of a twin and a lower twin
   as_many : total (λ h. lower (m.twin h) h) (3 * m.triangles) ≡ total (λ h. higher (m.twin h) h) (3 * m.triangles)
   as_many =
       sym (total_same (λ h. total (λ g. cond (names (m.twin h) g) (one_if (ltb g h)) 0) (3 * m.triangles)) (λ h. lower (m.twin h) h) (3 * m.triangles)
-      (λ h i. pick (m.twin h) (3 * m.triangles) (λ g. one_if (ltb g h)) (inside h) (lower (m.twin h) h) (λ g e. sym (ap (λ o. lower o h) e)) (λ e. ap (λ o. lower o h) e)))
+      (λ h i. pick (m.twin h) (3 * m.triangles) (λ g. one_if (ltb g h)) (twin_inside m l h) (lower (m.twin h) h) (λ g e. sym (ap (λ o. lower o h) e)) (λ e. ap (λ o. lower o h) e)))
       ∙ total_swap (λ h g. cond (names (m.twin h) g) (one_if (ltb g h)) 0) (3 * m.triangles) (3 * m.triangles)
       ∙ total_same (λ g. total (λ h. cond (names (m.twin h) g) (one_if (ltb g h)) 0) (3 * m.triangles)) (λ h. higher (m.twin h) h) (3 * m.triangles)
       (λ g i.
       total_same (λ h. cond (names (m.twin h) g) (one_if (ltb g h)) 0) (λ h. cond (names (m.twin g) h) (one_if (ltb g h)) 0) (3 * m.triangles) (λ h j. ap (λ b. cond b (one_if (ltb g h)) 0) (each_other h g))
-      ∙ pick (m.twin g) (3 * m.triangles) (λ h. one_if (ltb g h)) (inside g) (higher (m.twin g) g) (λ h e. sym (ap (λ o. higher o g) e)) (λ e. ap (λ o. higher o g) e))
+      ∙ pick (m.twin g) (3 * m.triangles) (λ h. one_if (ltb g h)) (twin_inside m l g) (higher (m.twin g) g) (λ h e. sym (ap (λ o. higher o g) e)) (λ e. ap (λ o. higher o g) e))
 
   -- the counts as sums
   shared_is : (n : ℕ) → (edges_below m n).shared ≡ total (λ h. lower (m.twin h) h) n
@@ -70,29 +62,24 @@ module _ (m : MeshModel) (l : Lawful m) where
   shared_is (suc n) = go (m.present (n / 3)) refl (m.twin n) refl (shared_is n)
     where
       go : (b : Bool) → m.present (n / 3) ≡ b → (o : Option ℕ) → m.twin n ≡ o → (edges_below m n).shared ≡ total (λ h. lower (m.twin h) h) n → (cond b (by_twin o n (edges_below m n)) (edges_below m n)).shared ≡ total (λ h. lower (m.twin h) h) n + lower o n
-      go false p None q e = omega arith
-      go false p (Some g) q e = let t = twin_present m l n g q in grind arith
-      go true p None q e = omega arith
-      go true p (Some g) q e = grind arith
+      go b p None q e = grind arith
+      go b p (Some g) q e = let t = twin_present m l n g q in grind arith
 
   border_is : (n : ℕ) → (edges_below m n).border ≡ total (λ h. cond (m.present (h / 3)) (alone (m.twin h)) 0) n
   border_is zero = refl
-  border_is (suc n) = go (m.present (n / 3)) (m.twin n) (border_is n)
+  border_is (suc n) = go (m.twin n) (border_is n)
     where
-      go : (b : Bool) (o : Option ℕ) → (edges_below m n).border ≡ total (λ h. cond (m.present (h / 3)) (alone (m.twin h)) 0) n → (cond b (by_twin o n (edges_below m n)) (edges_below m n)).border ≡ total (λ h. cond (m.present (h / 3)) (alone (m.twin h)) 0) n + cond b (alone o) 0
-      go false o e = omega arith
-      go true None e = omega arith
-      go true (Some g) e = grind arith
+      go : (o : Option ℕ) → (edges_below m n).border ≡ total (λ h. cond (m.present (h / 3)) (alone (m.twin h)) 0) n → (cond (m.present (n / 3)) (by_twin o n (edges_below m n)) (edges_below m n)).border ≡ total (λ h. cond (m.present (h / 3)) (alone (m.twin h)) 0) n + cond (m.present (n / 3)) (alone o) 0
+      go None e = grind arith
+      go (Some g) e = grind arith
 
   -- a half-edge of a present triangle is one of the three kinds
   kinds : (h : ℕ) → one_if (m.present (h / 3)) ≡ lower (m.twin h) h + cond (m.present (h / 3)) (alone (m.twin h)) 0 + higher (m.twin h) h
   kinds h = go (m.present (h / 3)) refl (m.twin h) refl
     where
       go : (b : Bool) → m.present (h / 3) ≡ b → (o : Option ℕ) → m.twin h ≡ o → one_if b ≡ lower o h + cond b (alone o) 0 + higher o h
-      go false p None q = refl
-      go false p (Some g) q = let t = twin_present m l h g q in grind arith
-      go true p None q = refl
-      go true p (Some g) q = let apart : g ≢ h = λ e. (twins_stand m l h g q).elsewhere (ap (λ x. x / 3) e) in grind (arith, nat_tests)
+      go b p None q = grind arith
+      go b p (Some g) q = let t = twin_present m l h g q in let apart : g ≢ h = λ e. (twins_stand m l h g q).elsewhere (ap (λ x. x / 3) e) in grind (arith, nat_tests)
 
   three_each : (t : ℕ) → total (λ h. one_if (m.present (h / 3))) (3 * t) ≡ 3 * present_count m t
   three_each zero = refl
@@ -104,27 +91,6 @@ module _ (m : MeshModel) (l : Lawful m) where
       let c : one_if (m.present (suc (suc (3 * t)) / 3)) ≡ one_if (m.present t) = ap (λ x. one_if (m.present x)) (omega arith) in
       let d = three_each t in
       ap (total (λ h. one_if (m.present (h / 3)))) e ∙ omega arith
-
--- one half-edge adds one at most
-pub few_more : (m : MeshModel) (h n : ℕ) (e : Edges) → e.shared ≤ n → e.border ≤ n → ((counted m h e).shared ≤ n + 1) × ((counted m h e).border ≤ n + 1)
-few_more m h n e s b = go (m.twin h)
-  where
-    go : (o : Option ℕ) → ((cond (m.present (h / 3)) (by_twin o h e) e).shared ≤ n + 1) × ((cond (m.present (h / 3)) (by_twin o h e) e).border ≤ n + 1)
-    go None = grind arith
-    go (Some g) = grind arith
-
--- counting on from half-edge a
-pub edges_folded : (m : MeshModel) (a n : ℕ) → fold (λ e h. counted m h e) (edges_below m a) (range_with_len a n) ≡ edges_below m (a + n)
-edges_folded m a zero = let e : a ≡ a + 0 = omega arith in ap (edges_below m) e
-edges_folded m a (suc n) =
-    let s : suc a ≡ a + 1 = omega arith in
-    let t : a + 1 + n ≡ a + suc n = omega arith in
-    ap (λ k. fold (λ e h. counted m h e) (edges_below m k) (range_with_len (a + 1) n)) s ∙ edges_folded m (a + 1) n ∙ ap (edges_below m) t
-
--- the numbers of a range that have come, in order
-pub range_taken : (xs : List ℕ) (s t : Range ℕ) → Yields nat_range_steps s xs t → (t.end ≡ s.end) × (t.start ≡ s.start + length xs)
-range_taken [] s t y = (sym (ap (λ k. k.end) y), omega (arith, ap (λ (k : Range ℕ). k.start) y))
-range_taken (x ∷ xs) s t y = let h = range_taken xs y.0 t y.2 in (h.0 ∙ y.1.0, omega (arith, h.1, y.1.1.2))
 
 pub edge_law : EdgeLaw
 edge_law m l =

@@ -1,5 +1,5 @@
 -- A point is marked just where it is a corner of a present triangle.
-use Rattle.std.proofs.Common.{◌≡◌, ℕ, zero, suc, ◌+◌, ◌*◌, ◌/◌, ◌<◌, Bool, true, false, cond, not, ◌&&◌, ◌||◌, eqb, ◌⊎◌, List, length, get_or, set, count_by, sym, refl, ap, ◌∙◌, inl, inr, arith}
+use Rattle.std.proofs.Common.{◌≡◌, ℕ, zero, suc, ◌+◌, ◌*◌, ◌/◌, ◌<◌, Bool, true, false, cond, not, ◌&&◌, ◌||◌, eqb, length, get_or, set, count_by, sym, refl, ap, ◌∙◌, arith}
 use Rattle.std.specs.List.{range_with_len}
 use Rattle.std.proofs.lemmas.List.FromFn.{fill_by_all}
 use Rattle.std.proofs.lemmas.List.{length-replicate, get_or-replicate}
@@ -7,32 +7,22 @@ use Rattle.std.proofs.lemmas.List.Folds.{fold-map}
 use Rattle.std.proofs.lemmas.Bool.Decides.{nat_tests}
 use Rattle.std.proofs.lemmas.Grind.{common_steps}
 use Rattle.std.proofs.Math.Bool.{or-false}
-use Rattle.std.proofs.lemmas.Bool.{cases_eq, or_right}
+use Rattle.std.proofs.lemmas.Bool.{or_right}
 use Rattle.mesh.specs.Model.{MeshModel, Lawful}
-use Rattle.mesh_counts.specs.Unused.{marked, used_below, corner_below, UnusedLaw}
+use Rattle.mesh_counts.specs.Unused.{used_below, corner_below, UnusedLaw}
 
-pub length_marked : (m : MeshModel) (h : ℕ) (used : List Bool) → length (marked m h used) ≡ length used
-length_marked m h used = grind (arith, common_steps)
-
-pub length_used : (m : MeshModel) (n : ℕ) → length (used_below m n) ≡ m.points
+length_used : (m : MeshModel) (n : ℕ) → length (used_below m n) ≡ m.points
 length_used m zero = length-replicate m.points false
-length_used m (suc n) = length_marked m n (used_below m n) ∙ length_used m n
+length_used m (suc n) = grind (arith, common_steps, length_used m n)
 
 module _ (m : MeshModel) (l : Lawful m) (p : ℕ) (i : p < m.points) where
   used_is : (n : ℕ) → get_or (used_below m n) p false ≡ corner_below m n p
   used_is zero = get_or-replicate m.points p false false i
   used_is (suc n) = go (m.present (n / 3)) refl (used_is n)
     where
-      size : length (used_below m n) ≡ m.points
-      size = length_used m n
-
       go : (b : Bool) → m.present (n / 3) ≡ b → get_or (used_below m n) p false ≡ corner_below m n p → get_or (cond b (set (used_below m n) (m.start n) true) (used_below m n)) p false ≡ (corner_below m n p || (b && eqb (m.start n) p))
       go false q e = e ∙ sym (or-false (corner_below m n p))
-      go true q e = let i = l.corner n q in by (cases_eq p (m.start n))
-        where
-          by : (p ≡ m.start n) ⊎ (p ≡ m.start n → ⊥) → get_or (set (used_below m n) (m.start n) true) p false ≡ (corner_below m n p || eqb (m.start n) p)
-          by (inl s) = grind (arith, common_steps, nat_tests, size, l.corner n q, or_right)
-          by (inr s) = grind (arith, common_steps, nat_tests, or-false)
+      go true q e = grind (arith, common_steps, nat_tests, length_used m n, l.corner n q, or_right, or-false)
 
 pub unused_law : UnusedLaw
 unused_law m l =

@@ -5,24 +5,25 @@ use Rattle.std.proofs.lemmas.Iterator.Consumers.{fold_from_yields_List}
 use Rattle.std.proofs.lemmas.Fn.{serves_by}
 use Rattle.mesh_counts.specs.Edges.{counted, edges_below}
 use Rattle.mesh_counts.specs.declared.edges.Edges.{Edges}
-use Rattle.mesh_counts.proofs.EdgeLaw.{few_more, edges_folded, range_taken}
+use Rattle.mesh_counts.proofs.Counting.{few_more, edges_folded, range_taken}
 use Rattle.mesh_counts.proofs.edges.count_edges.Goals as goal
 
 pub fold-requires-clause-callable : goal.fold-requires-clause-callable
 fold-requires-clause-callable g c =
     serves_by _ (λ xs q. (q.0 ≡ record { 0 = c.args.mesh }) × (q.1.shared ≤ length xs) × (q.1.border ≤ length xs))
-      (λ xs q x v j r.
-      let few = few_more (g.M.Mesh.meaning q.0.0.now) x (length xs) q.1 j.1 j.2 in
-      let e : v.1 ≡ counted (g.M.Mesh.meaning q.0.0.now) x q.1 = search rules in
-      let s : v.0 ≡ q.0 = search rules in
-      (s ∙ j.0, omega (arith, few.0, length-append {A = ℕ}, ap (λ (k : Edges). k.shared) e), omega (arith, few.1, length-append {A = ℕ}, ap (λ (k : Edges). k.border) e))) _ _ _ _ (refl, omega (arith, c.default.ensures.0), omega (arith, c.default.ensures.1))
-      (λ xs t q x u y s j.
-      let l = g.M.Mesh.lawful c.args.mesh.now in
-      let i = range_taken xs _ t y in
-      let few : length xs < 196608 = omega (arith, i.0, i.1, s.1.0, c.triangles.ensures, l.few_triangles) in
-      let a : q.1.shared < 196608 = omega arith in
-      let b : q.1.border < 196608 = omega arith in
-      search rules)
+    (λ xs q x v j r.
+    let few = few_more (g.M.Mesh.meaning q.0.0.now) x (length xs) q.1 j.1 j.2 in
+    let e : v.1 ≡ counted (g.M.Mesh.meaning q.0.0.now) x q.1 = search rules in
+    let s : v.0 ≡ q.0 = search rules in
+    (s ∙ j.0, omega (arith, few.0, length-append {A = ℕ}, ap (λ (k : Edges). k.shared) e), omega (arith, few.1, length-append {A = ℕ}, ap (λ (k : Edges). k.border) e)))
+    _ _ _ _ (refl, omega (arith, c.default.ensures.0), omega (arith, c.default.ensures.1))
+    (λ xs t q x u y s j.
+    let l = g.M.Mesh.lawful c.args.mesh.now in
+    let i = range_taken xs _ t y in
+    let few : length xs < 196608 = omega (arith, i.0, i.1, s.1.0, c.triangles.ensures, l.few_triangles) in
+    let a : q.1.shared < 196608 = omega arith in
+    let b : q.1.border < 196608 = omega arith in
+    search rules)
 
 pub returns : goal.returns
 returns g c =
