@@ -1,7 +1,8 @@
 -- A fan keeps the rules of a mesh. The proof stands here and not in proofs/, since a ghost member cites it.
-use Rattle.std.specs.Prelude.{◌≡◌, ℕ, zero, suc, ◌+◌, ◌-◌, ◌*◌, ◌/◌, ◌%◌, ◌<◌, ◌≤◌, Bool, true, false, cond, ◌&&◌, ◌⊎◌, pos, Some, None, ◌==◌, ◌≢◌, nat_le, nat_lt, refl}
+use Rattle.std.specs.Prelude.{◌≡◌, ℕ, zero, suc, ◌+◌, ◌*◌, ◌/◌, ◌%◌, ◌<◌, ◌≤◌, Bool, true, false, cond, ◌&&◌, ◌⊎◌, pos, Some, None, ◌≢◌, nat_le, nat_lt, refl}
 use Rattle.std.proofs.Common.{sym, ap, ◌∙◌, inl, inr, arith}
-use Rattle.std.proofs.lemmas.Bool.{and_parts, and_right, ltb-true, lt-ltb, le-ltb, eqb-false, ne_eqb, cond-true, cond-false}
+use Rattle.std.proofs.lemmas.Bool.{and_parts, and_right, ltb-true, lt-ltb, le-ltb, cond-true, cond-false}
+use Rattle.std.proofs.lemmas.Bool.Decides.{nat_tests}
 use Rattle.mesh.specs.HalfEdges.{next}
 use Rattle.mesh.specs.Model.{Lawful, Near, end_of, origin}
 use Rattle.outside_mesh.specs.Fan.{corner, joined, spread, fan}
@@ -33,52 +34,17 @@ module _ (n : ℕ) (few : n ≤ 100) where
   beside_of h g e = go (nat_lt (h / 3) n) refl (h % 3) refl
     where
       go : (b : Bool) → nat_lt (h / 3) n ≡ b → (k : ℕ) → h % 3 ≡ k → Beside n h g
-      go false p k q = let a = cond-false (nat_lt (h / 3) n) (joined n (h / 3) (h % 3)) None p in let z : ◌≡◌ {A = ℕ} 0 1 = cc in absurd (omega arith)
-      go true p zero q = first (h / 3 == 0) refl
-        where
-          is : joined n (h / 3) 0 ≡ Some g
-          is = sym (twin_is h (ltb-true (h / 3) n p) ∙ ap (joined n (h / 3)) q) ∙ e
-
-          first : (b : Bool) → (h / 3 == 0) ≡ b → Beside n h g
-          first true t = let a = cond-true (h / 3 == 0) None (Some (3 * (h / 3) - 1)) t in let i = is in let z : ◌≡◌ {A = ℕ} 0 1 = cc in absurd (omega arith)
-          first false t =
-              let a = cond-false (h / 3 == 0) None (Some (3 * (h / 3) - 1)) t in
-              let i = is in
-              let d : 3 * (h / 3) - 1 ≡ g = cc in
-              let l = ltb-true (h / 3) n p in
-              let m = eqb-false (h / 3) 0 t in
-              record { here = l; there = omega arith; sides = inl (q, omega arith) }
-      go true p (suc zero) q =
-          let a = twin_is h (ltb-true (h / 3) n p) ∙ ap (joined n (h / 3)) q in
-          let z : ◌≡◌ {A = ℕ} 0 1 = cc in absurd (omega arith)
-      go true p (suc (suc k)) q = last (nat_lt (h / 3 + 1) n) refl
-        where
-          two : h % 3 ≡ 2
-          two = omega arith
-
-          is : joined n (h / 3) 2 ≡ Some g
-          is = sym (twin_is h (ltb-true (h / 3) n p) ∙ ap (joined n (h / 3)) two) ∙ e
-
-          last : (b : Bool) → nat_lt (h / 3 + 1) n ≡ b → Beside n h g
-          last true t =
-              let a = cond-true (nat_lt (h / 3 + 1) n) (Some (3 * (h / 3) + 3)) None t in
-              let i = is in
-              let d : 3 * (h / 3) + 3 ≡ g = cc in
-              let l = ltb-true (h / 3) n p in
-              let m = ltb-true (h / 3 + 1) n t in
-              record { here = l; there = omega arith; sides = inr (two, omega (arith, two)) }
-          last false t = let a = cond-false (nat_lt (h / 3 + 1) n) (Some (3 * (h / 3) + 3)) None t in let i = is in let z : ◌≡◌ {A = ℕ} 0 1 = cc in absurd (omega arith)
+      go false p k q = grind arith
+      go true p zero q = grind (arith, nat_tests)
+      go true p (suc zero) q = grind (arith, nat_tests)
+      go true p (suc (suc k)) q = grind (arith, nat_tests)
 
   twin_from : (h g : ℕ) → Beside n h g → (fan n).twin h ≡ Some g
   twin_from h g b = go b.sides
     where
       go : ((h % 3 ≡ 0) × (h ≡ g + 1)) ⊎ ((h % 3 ≡ 2) × (g ≡ h + 1)) → (fan n).twin h ≡ Some g
-      go (inl (q, s)) =
-          twin_is h b.here ∙ ap (joined n (h / 3)) q
-          ∙ cond-false (h / 3 == 0) None (Some (3 * (h / 3) - 1)) (ne_eqb (h / 3) 0 (λ z. omega arith)) ∙ ap Some (omega arith)
-      go (inr (q, s)) =
-          twin_is h b.here ∙ ap (joined n (h / 3)) q
-          ∙ cond-true (nat_lt (h / 3 + 1) n) (Some (3 * (h / 3) + 3)) None (lt-ltb (h / 3 + 1) n (omega (arith, b.there))) ∙ ap Some (omega arith)
+      go (inl (q, s)) = grind (arith, nat_tests, b.here, b.there)
+      go (inr (q, s)) = grind (arith, nat_tests, b.here, b.there)
 
   turned : (h g : ℕ) → Beside n h g → Beside n g h
   turned h g b = go b.sides
