@@ -1,20 +1,17 @@
 -- Counting edges by a fold over the half-edges: each adds one at most, and the fold is the count.
-use Rattle.std.proofs.Common.{◌≡◌, ℕ, zero, suc, ◌+◌, ◌/◌, ◌≤◌, cond, Some, None, Option, List, [], ◌∷◌, length, sym, ap, ◌∙◌, arith}
+use Rattle.std.proofs.Common.{◌≡◌, ℕ, zero, suc, ◌+◌, ◌≤◌, List, [], ◌∷◌, length, sym, ap, ◌∙◌, arith}
 use Rattle.std.specs.Iterator.{Yields}
 use Rattle.std.specs.List.{fold, range_with_len}
 use Rattle.std.specs.declared.ops.Range.{Range}
 use Rattle.std.proofs.iter.Yields.{nat_range_steps}
+use Rattle.std.proofs.lemmas.Bool.Decides.{nat_tests}
 use Rattle.mesh.specs.Model.{MeshModel}
 use Rattle.mesh_counts.specs.declared.edges.Edges.{Edges}
-use Rattle.mesh_counts.specs.Edges.{by_twin, counted, edges_below}
+use Rattle.mesh_counts.specs.Edges.{counted, edges_below}
 
 -- one half-edge adds one at most
 pub few_more : (m : MeshModel) (h n : ℕ) (e : Edges) → e.shared ≤ n → e.border ≤ n → ((counted m h e).shared ≤ n + 1) × ((counted m h e).border ≤ n + 1)
-few_more m h n e s b = go (m.twin h)
-  where
-    go : (o : Option ℕ) → ((cond (m.present (h / 3)) (by_twin o h e) e).shared ≤ n + 1) × ((cond (m.present (h / 3)) (by_twin o h e) e).border ≤ n + 1)
-    go None = grind arith
-    go (Some g) = grind arith
+few_more m h n e s b = (grind (arith, nat_tests), grind (arith, nat_tests))
 
 -- counting on from half-edge a
 pub edges_folded : (m : MeshModel) (a n : ℕ) → fold (λ e h. counted m h e) (edges_below m a) (range_with_len a n) ≡ edges_below m (a + n)

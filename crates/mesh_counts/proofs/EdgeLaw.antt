@@ -1,11 +1,10 @@
 -- Edges add up to half-edges: as many half-edges have a lower twin as have a higher one, since twins are mutual.
-use Rattle.std.proofs.Common.{◌≡◌, ℕ, zero, suc, ◌+◌, ◌*◌, ◌/◌, ◌<◌, ◌≢◌, Bool, true, false, cond, eqb, ltb, Some, None, Option, sym, refl, ap, ◌∙◌, arith}
+use Rattle.std.proofs.Common.{◌≡◌, ℕ, zero, suc, ◌+◌, ◌*◌, ◌/◌, ◌<◌, Bool, true, false, cond, eqb, ltb, Some, None, Option, sym, refl, ap, ◌∙◌, arith}
 use Rattle.std.specs.Cmp.{both_ways}
-use Rattle.std.proofs.lemmas.Bool.{eqb-true, eq-eqb}
 use Rattle.std.proofs.lemmas.Bool.Decides.{nat_tests}
 use Rattle.mesh.specs.Model.{MeshModel, Lawful}
 use Rattle.mesh.proofs.Rules.{twin_present, twin_inside, twins_stand}
-use Rattle.mesh_counts.specs.Edges.{by_twin, edges_below, present_count, EdgeLaw}
+use Rattle.mesh_counts.specs.Edges.{edges_below, present_count, EdgeLaw}
 use Rattle.mesh_counts.proofs.Totals.{total, total_same, total_plus, total_none, total_swap, total_one}
 
 -- the twin is the half-edge g
@@ -29,10 +28,6 @@ alone (Some g) = 0
 abbrev one_if : Bool → ℕ
 one_if b = cond b 1 0
 
-is_named : (o : Option ℕ) (g : ℕ) → names o g ≡ true → o ≡ Some g
-is_named None g e = grind arith
-is_named (Some x) g e = ap Some (eqb-true x g e)
-
 -- one twin at most is named, and its number is in range
 pick : (o : Option ℕ) (n : ℕ) (f : ℕ → ℕ) → ((g : ℕ) → o ≡ Some g → g < n) → (v : ℕ) → ((g : ℕ) → o ≡ Some g → f g ≡ v) → (o ≡ None → v ≡ 0) → total (λ g. cond (names o g) (f g) 0) n ≡ v
 pick None n f i v s z = total_none n ∙ sym (z refl)
@@ -43,7 +38,7 @@ module _ (m : MeshModel) (l : Lawful m) where
   each_other h g = both_ways (names (m.twin h) g) (names (m.twin g) h) (turn h g) (turn g h)
     where
       turn : (h g : ℕ) → names (m.twin h) g ≡ true → names (m.twin g) h ≡ true
-      turn h g e = ap (λ o. names o h) (l.back h g (is_named (m.twin h) g e)) ∙ eq-eqb h h refl
+      turn h g e = grind (arith, nat_tests, l.back h g)
 
   -- both count the pairs of a twin and a lower twin
   as_many : total (λ h. lower (m.twin h) h) (3 * m.triangles) ≡ total (λ h. higher (m.twin h) h) (3 * m.triangles)
@@ -59,38 +54,24 @@ module _ (m : MeshModel) (l : Lawful m) where
   -- the counts as sums
   shared_is : (n : ℕ) → (edges_below m n).shared ≡ total (λ h. lower (m.twin h) h) n
   shared_is zero = refl
-  shared_is (suc n) = go (m.present (n / 3)) refl (m.twin n) refl (shared_is n)
-    where
-      go : (b : Bool) → m.present (n / 3) ≡ b → (o : Option ℕ) → m.twin n ≡ o → (edges_below m n).shared ≡ total (λ h. lower (m.twin h) h) n → (cond b (by_twin o n (edges_below m n)) (edges_below m n)).shared ≡ total (λ h. lower (m.twin h) h) n + lower o n
-      go b p None q e = grind arith
-      go b p (Some g) q e = let t = twin_present m l n g q in grind arith
+  shared_is (suc n) = grind (arith, nat_tests, shared_is n, twin_present m l n)
 
   border_is : (n : ℕ) → (edges_below m n).border ≡ total (λ h. cond (m.present (h / 3)) (alone (m.twin h)) 0) n
   border_is zero = refl
-  border_is (suc n) = go (m.twin n) (border_is n)
-    where
-      go : (o : Option ℕ) → (edges_below m n).border ≡ total (λ h. cond (m.present (h / 3)) (alone (m.twin h)) 0) n → (cond (m.present (n / 3)) (by_twin o n (edges_below m n)) (edges_below m n)).border ≡ total (λ h. cond (m.present (h / 3)) (alone (m.twin h)) 0) n + cond (m.present (n / 3)) (alone o) 0
-      go None e = grind arith
-      go (Some g) e = grind arith
+  border_is (suc n) = grind (arith, nat_tests, border_is n)
 
   -- a half-edge of a present triangle is one of the three kinds
   kinds : (h : ℕ) → one_if (m.present (h / 3)) ≡ lower (m.twin h) h + cond (m.present (h / 3)) (alone (m.twin h)) 0 + higher (m.twin h) h
-  kinds h = go (m.present (h / 3)) refl (m.twin h) refl
-    where
-      go : (b : Bool) → m.present (h / 3) ≡ b → (o : Option ℕ) → m.twin h ≡ o → one_if b ≡ lower o h + cond b (alone o) 0 + higher o h
-      go b p None q = grind arith
-      go b p (Some g) q = let t = twin_present m l h g q in let apart : g ≢ h = λ e. (twins_stand m l h g q).elsewhere (ap (λ x. x / 3) e) in grind (arith, nat_tests)
+  kinds h = grind (arith, nat_tests, twin_present m l h, twins_stand m l h)
 
   three_each : (t : ℕ) → total (λ h. one_if (m.present (h / 3))) (3 * t) ≡ 3 * present_count m t
   three_each zero = refl
   three_each (suc t) =
-      let F : ℕ → ℕ = λ h. one_if (m.present (h / 3)) in
       let e : 3 * suc t ≡ suc (suc (suc (3 * t))) = omega arith in
-      let a : one_if (m.present (3 * t / 3)) ≡ one_if (m.present t) = ap (λ x. one_if (m.present x)) (omega arith) in
-      let b : one_if (m.present (suc (3 * t) / 3)) ≡ one_if (m.present t) = ap (λ x. one_if (m.present x)) (omega arith) in
-      let c : one_if (m.present (suc (suc (3 * t)) / 3)) ≡ one_if (m.present t) = ap (λ x. one_if (m.present x)) (omega arith) in
-      let d = three_each t in
-      ap (total (λ h. one_if (m.present (h / 3)))) e ∙ omega arith
+      let first : 3 * t / 3 ≡ t = omega arith in
+      let second : suc (3 * t) / 3 ≡ t = omega arith in
+      let third : suc (suc (3 * t)) / 3 ≡ t = omega arith in
+      ap (total (λ h. one_if (m.present (h / 3)))) e ∙ grind (arith, three_each t)
 
 pub edge_law : EdgeLaw
 edge_law m l =

@@ -1,5 +1,5 @@
 -- A point is marked just where it is a corner of a present triangle.
-use Rattle.std.proofs.Common.{◌≡◌, ℕ, zero, suc, ◌+◌, ◌*◌, ◌/◌, ◌<◌, Bool, true, false, cond, not, ◌&&◌, ◌||◌, eqb, length, get_or, set, count_by, sym, refl, ap, ◌∙◌, arith}
+use Rattle.std.proofs.Common.{◌≡◌, ℕ, zero, suc, ◌+◌, ◌*◌, ◌<◌, false, cond, not, length, get_or, count_by, ap, ◌∙◌, arith}
 use Rattle.std.specs.List.{range_with_len}
 use Rattle.std.proofs.lemmas.List.FromFn.{fill_by_all}
 use Rattle.std.proofs.lemmas.List.{length-replicate, get_or-replicate}
@@ -18,11 +18,7 @@ length_used m (suc n) = grind (arith, common_steps, length_used m n)
 module _ (m : MeshModel) (l : Lawful m) (p : ℕ) (i : p < m.points) where
   used_is : (n : ℕ) → get_or (used_below m n) p false ≡ corner_below m n p
   used_is zero = get_or-replicate m.points p false false i
-  used_is (suc n) = go (m.present (n / 3)) refl (used_is n)
-    where
-      go : (b : Bool) → m.present (n / 3) ≡ b → get_or (used_below m n) p false ≡ corner_below m n p → get_or (cond b (set (used_below m n) (m.start n) true) (used_below m n)) p false ≡ (corner_below m n p || (b && eqb (m.start n) p))
-      go false q e = e ∙ sym (or-false (corner_below m n p))
-      go true q e = grind (arith, common_steps, nat_tests, length_used m n, l.corner n q, or_right, or-false)
+  used_is (suc n) = grind (arith, common_steps, nat_tests, used_is n, length_used m n, l.corner n, or_right, or-false)
 
 pub unused_law : UnusedLaw
 unused_law m l =
