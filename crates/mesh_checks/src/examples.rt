@@ -29,7 +29,10 @@ const SQUARE: [Point; 4] = [
 // Two triangles over it.
 const HALVES: [Triangle; 2] = [Triangle { a: 0, b: 1, c: 2 }, Triangle { a: 0, b: 2, c: 3 }];
 
+// Their twins as a list of the mesh holds them, and as the mesh replies them, up to one past the last half-edge.
 const PAIRED: [u32; 6] = [NO_TWIN, NO_TWIN, 3, 2, NO_TWIN, NO_TWIN];
+
+const JOINED: [Option<u32>; 7] = [None, None, Some(3), Some(2), None, None, None];
 
 // What is replied about the numbers from 0 on.
 fn replies_are<T: Copy + Debug + PartialEq, F: Fn(u32) -> T>(
@@ -186,11 +189,7 @@ fn stored_meshes(rt: HostRuntime) -> Result<(), Fail> {
     assert!(rt; mesh.present(0) && mesh.present(1) && !mesh.present(2));
     assert_eq!(rt; mesh.place(2), at(100, 100, 0));
     starts_are(&rt, &mesh, &[0, 1, 2, 0, 2, 3, 0]);
-    twins_are(
-        &rt,
-        &mesh,
-        &[None, None, Some(3), Some(2), None, None, None],
-    );
+    twins_are(&rt, &mesh, &JOINED);
     replies_past_the_end(&rt, &mesh);
     // refused lists leave the mesh as it was: a twin that is not mutual, one that runs along, one past the end
     let refused: [&[u32]; 4] = [
@@ -203,11 +202,7 @@ fn stored_meshes(rt: HostRuntime) -> Result<(), Fail> {
         assert_eq!(rt; mesh.fill(&SQUARE, &HALVES, twins), Err(MeshRefusal::Lists));
     }
     assert_eq!(rt; mesh.triangles(), 2);
-    twins_are(
-        &rt,
-        &mesh,
-        &[None, None, Some(3), Some(2), None, None, None],
-    );
+    twins_are(&rt, &mesh, &JOINED);
     Ok(())
 }
 
@@ -230,11 +225,7 @@ fn mirrored_meshes(rt: HostRuntime) -> Result<(), Fail> {
     let twice = Mirrored::new(&mirrored);
     assert_eq!(rt; twice.place(1), at(100, 0, 0));
     starts_are(&rt, &twice, &[0, 1, 2, 0, 2, 3, 0]);
-    twins_are(
-        &rt,
-        &twice,
-        &[None, None, Some(3), Some(2), None, None, None],
-    );
+    twins_are(&rt, &twice, &JOINED);
     Ok(())
 }
 
