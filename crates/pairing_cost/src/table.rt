@@ -1,8 +1,10 @@
 // The lines of the table: what pairing one floor costs.
-ghost use Rattle.std.specs.Prelude.{◌≡◌, if◌then◌else◌, Ok, Err};
+ghost use Rattle.std.specs.Prelude.{◌≡◌, if◌then◌else◌, Some, Ok, Err};
+ghost use Rattle.std.specs.Fmt.{padded};
 ghost use Rattle.std.specs.List.Sorted.{IsPermutation};
 ghost use Rattle.mesh.specs.Stored.{stored, stored_fits};
 ghost use Rattle.mesh_counts.specs.Edges.{edges_of};
+ghost use Rattle.pairing_cost.specs.Order.{order_name};
 ghost use Rattle.meshes.specs.declared.refusal.MeshRefusal.{MeshRefusal};
 
 use crate::floor::Floor;
@@ -33,6 +35,10 @@ impl Order {
 }
 
 impl fmt::Display for Order {
+    ghost output = { λ order. Some (order_name order) };
+
+    ghost styled_output = { λ order spec. Some (padded spec (order_name order)) };
+
     fn fmt<W: fmt::Write>(&self, f: &mut fmt::Formatter<W>) -> fmt::Result {
         f.pad(match self {
             Order::Drawn => "drawn",
