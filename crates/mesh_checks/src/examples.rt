@@ -1,7 +1,8 @@
 // Small meshes, and lists and settings at the edge of what makes a mesh.
 use mesh::{Mesh, NO_TWIN, Point, Triangle, end_of, next};
 use meshes::{DepthGrid, MeshRefusal, Mirrored, StoredMesh, pair};
-use std::alloc::Global;
+use std::alloc::AllocGlobal;
+use std::fmt::Debug;
 use std::process::Abort;
 use std::test::Fail;
 
@@ -13,7 +14,7 @@ const fn corners(a: u32, b: u32, c: u32) -> Triangle {
     Triangle { a, b, c }
 }
 
-// The corners of a square.
+// The corners of a square. A constant calls no function, so points and triangles are written out here.
 const SQUARE: [Point; 4] = [
     Point { x: 0, y: 0, z: 0 },
     Point { x: 100, y: 0, z: 0 },
@@ -28,24 +29,34 @@ const SQUARE: [Point; 4] = [
 // Two triangles over it.
 const HALVES: [Triangle; 2] = [Triangle { a: 0, b: 1, c: 2 }, Triangle { a: 0, b: 2, c: 3 }];
 
+// Their twins as a list of the mesh holds them, and as the mesh replies them, up to one past the last half-edge.
 const PAIRED: [u32; 6] = [NO_TWIN, NO_TWIN, 3, 2, NO_TWIN, NO_TWIN];
 
-// What the first half-edges of a mesh reply.
+const JOINED: [Option<u32>; 7] = [None, None, Some(3), Some(2), None, None, None];
+
+// What is replied about the numbers from 0 on.
+fn replies_are<T: Copy + Debug + PartialEq, F: Fn(u32) -> T>(
+    rt: &impl Abort,
+    reply: F,
+    expected: &[T],
+)
+    requires { F.IsAlwaysCallable reply }
+{
+    for (n, &expected) in (0..).zip(expected) {
+        assert_eq!(rt; reply(n), expected);
+    }
+}
+
+// Where the first half-edges of a mesh start, and that each ends where the next one starts.
 fn starts_are<M: Mesh>(rt: &impl Abort, mesh: &M, starts: &[u32]) {
-    let mut h: u32 = 0;
-    for &start in starts {
-        assert_eq!(rt; mesh.start(h), start);
+    replies_are(rt, |h| mesh.start(h), starts);
+    for (h, _) in (0..).zip(starts) {
         assert_eq!(rt; end_of(mesh, h), mesh.start(next(h)));
-        h = h.saturating_add(1);
     }
 }
 
 fn twins_are<M: Mesh>(rt: &impl Abort, mesh: &M, twins: &[Option<u32>]) {
-    let mut h: u32 = 0;
-    for &twin in twins {
-        assert_eq!(rt; mesh.twin(h), twin);
-        h = h.saturating_add(1);
-    }
+    replies_are(rt, |h| mesh.twin(h), twins);
 }
 
 // The numbers past the end of every mesh.
@@ -67,14 +78,13 @@ fn makes<'a>(rt: &impl Abort, points: &'a [Point], triangles: &'a [Triangle], tw
 
 // Pairing gives this list, whatever the list held, and it makes a stored mesh.
 fn pairs(
-    rt: &impl Abort,
-    heap: Global,
+    rt: &(impl Abort + AllocGlobal),
     points: &[Point],
     triangles: &[Triangle],
     paired: &[u32],
 ) -> Result<(), Fail> {
-    let mut twins = vec![in heap; 7; paired.len()]?;
-    assert_eq!(rt; pair(points, triangles, twins.as_mut_slice()), Ok(()));
+    let mut twins = vec![in rt.alloc(); 7; paired.len()]?;
+    assert_eq!(rt; pair(points, triangles, &mut twins), Ok(()));
     assert_eq!(rt; twins.as_slice(), paired);
     makes(rt, points, triangles, paired);
     Ok(())
@@ -82,13 +92,11 @@ fn pairs(
 
 #[test]
 fn pairings(rt: HostRuntime) -> Result<(), Fail> {
-    let heap = rt.alloc();
-    let points = [at(0, 0, 0); 4];
-    pairs(&rt, heap, &SQUARE, &HALVES, &PAIRED)?;
+    let points = [Point::default(); 4];
+    pairs(&rt, &SQUARE, &HALVES, &PAIRED)?;
     // a triangle folded onto itself
     pairs(
         &rt,
-        heap,
         &points,
         &[corners(0, 1, 2), corners(0, 2, 1)],
         &[5, 4, 3, 2, 1, 0],
@@ -96,22 +104,19 @@ fn pairings(rt: HostRuntime) -> Result<(), Fail> {
     // the same way twice is no pair
     pairs(
         &rt,
-        heap,
         &points,
         &[corners(0, 1, 2), corners(0, 1, 3)],
         &[NO_TWIN; 6],
     )?;
-    pairs(&rt, heap, &[], &[], &[])
+    pairs(&rt, &[], &[], &[])
 }
 
 #[test]
 fn panels_on_one_side(rt: HostRuntime) -> Result<(), Fail> {
-    let heap = rt.alloc();
-    let points = [at(0, 0, 0); 6];
+    let points = [Point::default(); 6];
     // three panels on one side: the first two are joined
     pairs(
         &rt,
-        heap,
         &points,
         &[corners(0, 1, 2), corners(1, 0, 3), corners(1, 0, 4)],
         &[
@@ -121,7 +126,6 @@ fn panels_on_one_side(rt: HostRuntime) -> Result<(), Fail> {
     // four panels: each of the first two has the lowest that is left
     pairs(
         &rt,
-        heap,
         &points,
         &[
             corners(0, 1, 2),
@@ -137,37 +141,40 @@ fn panels_on_one_side(rt: HostRuntime) -> Result<(), Fail> {
 
 // Refused, pairing leaves the list as it was.
 fn unpaired(
-    rt: &impl Abort,
-    heap: Global,
+    rt: &(impl Abort + AllocGlobal),
     points: &[Point],
     triangles: &[Triangle],
     size: usize,
 ) -> Result<(), Fail> {
-    let mut twins = vec![in heap; 7; size]?;
-    let before = vec![in heap; 7; size]?;
+    let mut twins = vec![in rt.alloc(); 7; size]?;
+    let before = vec![in rt.alloc(); 7; size]?;
     assert_eq!(rt;
-        pair(points, triangles, twins.as_mut_slice()),
+        pair(points, triangles, &mut twins),
         Err(MeshRefusal::Lists)
     );
-    assert_eq!(rt; twins.as_slice(), before.as_slice());
+    assert_eq!(rt; twins, before);
     Ok(())
 }
 
 #[test]
 fn refused_pairings(rt: HostRuntime) -> Result<(), Fail> {
-    let heap = rt.alloc();
     assert_eq!(rt; MeshRefusal::Lists.number(), 10);
-    unpaired(&rt, heap, &SQUARE, &HALVES, 5)?;
-    unpaired(&rt, heap, &SQUARE, &HALVES, 7)?;
-    unpaired(&rt, heap, &SQUARE, &[corners(0, 1, 4)], 3)?;
-    unpaired(&rt, heap, &SQUARE, &[corners(0, 1, 1)], 3)?;
-    unpaired(&rt, heap, &SQUARE, &[corners(2, 1, 2)], 3)?;
-    unpaired(&rt, heap, &[at(0, 0, 10_001)], &[], 0)?;
-    unpaired(&rt, heap, &[at(0, -10_001, 0)], &[], 0)?;
-    pairs(&rt, heap, &[at(10_000, -10_000, 0)], &[], &[])?;
-    let many = vec![in heap; at(0, 0, 0); 65_537]?;
-    unpaired(&rt, heap, many.as_slice(), &[], 0)?;
-    pairs(&rt, heap, &many.as_slice()[1..], &[], &[])
+    let many = vec![in rt.alloc(); Point::default(); 65_537]?;
+    let refused: [(&[Point], &[Triangle], usize); 8] = [
+        (&SQUARE, &HALVES, 5),
+        (&SQUARE, &HALVES, 7),
+        (&SQUARE, &[corners(0, 1, 4)], 3),
+        (&SQUARE, &[corners(0, 1, 1)], 3),
+        (&SQUARE, &[corners(2, 1, 2)], 3),
+        (&[at(0, 0, 10_001)], &[], 0),
+        (&[at(0, -10_001, 0)], &[], 0),
+        (&many, &[], 0),
+    ];
+    for (points, triangles, size) in refused {
+        unpaired(&rt, points, triangles, size)?;
+    }
+    pairs(&rt, &[at(10_000, -10_000, 0)], &[], &[])?;
+    pairs(&rt, &many[1..], &[], &[])
 }
 
 #[test]
@@ -182,44 +189,20 @@ fn stored_meshes(rt: HostRuntime) -> Result<(), Fail> {
     assert!(rt; mesh.present(0) && mesh.present(1) && !mesh.present(2));
     assert_eq!(rt; mesh.place(2), at(100, 100, 0));
     starts_are(&rt, &mesh, &[0, 1, 2, 0, 2, 3, 0]);
-    twins_are(
-        &rt,
-        &mesh,
-        &[None, None, Some(3), Some(2), None, None, None],
-    );
+    twins_are(&rt, &mesh, &JOINED);
     replies_past_the_end(&rt, &mesh);
     // refused lists leave the mesh as it was: a twin that is not mutual, one that runs along, one past the end
-    assert_eq!(rt;
-        mesh.fill(
-            &SQUARE,
-            &HALVES,
-            &[NO_TWIN, NO_TWIN, 3, NO_TWIN, NO_TWIN, NO_TWIN],
-        ),
-        Err(MeshRefusal::Lists)
-    );
-    assert_eq!(rt;
-        mesh.fill(
-            &SQUARE,
-            &HALVES,
-            &[NO_TWIN, 3, NO_TWIN, 1, NO_TWIN, NO_TWIN],
-        ),
-        Err(MeshRefusal::Lists)
-    );
-    assert_eq!(rt;
-        mesh.fill(
-            &SQUARE,
-            &HALVES,
-            &[NO_TWIN, NO_TWIN, 6, NO_TWIN, NO_TWIN, NO_TWIN],
-        ),
-        Err(MeshRefusal::Lists)
-    );
-    assert_eq!(rt; mesh.fill(&SQUARE, &HALVES, &[]), Err(MeshRefusal::Lists));
+    let refused: [&[u32]; 4] = [
+        &[NO_TWIN, NO_TWIN, 3, NO_TWIN, NO_TWIN, NO_TWIN],
+        &[NO_TWIN, 3, NO_TWIN, 1, NO_TWIN, NO_TWIN],
+        &[NO_TWIN, NO_TWIN, 6, NO_TWIN, NO_TWIN, NO_TWIN],
+        &[],
+    ];
+    for twins in refused {
+        assert_eq!(rt; mesh.fill(&SQUARE, &HALVES, twins), Err(MeshRefusal::Lists));
+    }
     assert_eq!(rt; mesh.triangles(), 2);
-    twins_are(
-        &rt,
-        &mesh,
-        &[None, None, Some(3), Some(2), None, None, None],
-    );
+    twins_are(&rt, &mesh, &JOINED);
     Ok(())
 }
 
@@ -242,11 +225,7 @@ fn mirrored_meshes(rt: HostRuntime) -> Result<(), Fail> {
     let twice = Mirrored::new(&mirrored);
     assert_eq!(rt; twice.place(1), at(100, 0, 0));
     starts_are(&rt, &twice, &[0, 1, 2, 0, 2, 3, 0]);
-    twins_are(
-        &rt,
-        &twice,
-        &[None, None, Some(3), Some(2), None, None, None],
-    );
+    twins_are(&rt, &twice, &JOINED);
     Ok(())
 }
 
@@ -312,40 +291,34 @@ fn depth_grids(rt: HostRuntime) -> Result<(), Fail> {
 
 #[test]
 fn grid_limits(rt: HostRuntime) -> Result<(), Fail> {
-    let heap = rt.alloc();
     assert_eq!(rt; MeshRefusal::Grid.number(), 9);
-    let readings = vec![in heap; 10_000u16; 32_761]?;
-    let wide = &readings.as_slice()[0..362];
+    let readings = vec![in rt.alloc(); 10_000u16; 32_761]?;
+    let wide = &readings[..362];
     let mut grid = DepthGrid::empty();
-    assert_eq!(rt; grid.fill(181, 181, 55, readings.as_slice()), Ok(()));
+    assert_eq!(rt; grid.fill(181, 181, 55, &readings), Ok(()));
     assert_eq!(rt; grid.triangles(), 64_800);
     assert_eq!(rt; grid.place(32_760), at(9_900, 9_900, 10_000));
     assert_eq!(rt; grid.fill(181, 2, 1, wide), Ok(()));
     assert_eq!(rt; grid.fill(2, 181, 1, wide), Ok(()));
-    let full = &[1u16; 364];
-    for (columns, rows, pitch) in [
-        (182, 2, 1),
-        (2, 182, 1),
-        (1, 364, 1),
-        (364, 1, 1),
-        (0, 0, 1),
-    ] {
+    let full = &[1; 364];
+    let refused: [(u32, u32, u32, &[u16]); 10] = [
+        (182, 2, 1, full),
+        (2, 182, 1, full),
+        (1, 364, 1, full),
+        (364, 1, 1, full),
+        (0, 0, 1, full),
+        (2, 2, 0, &[1, 1, 1, 1]),
+        (2, 2, 56, &[1, 1, 1, 1]),
+        (2, 2, 1, &[1, 1, 1]),
+        (2, 2, 1, &[1, 1, 1, 1, 1]),
+        (2, 2, 1, &[1, 1, 1, 10_001]),
+    ];
+    for (columns, rows, pitch, readings) in refused {
         assert_eq!(rt;
-            grid.fill(columns, rows, pitch, full),
+            grid.fill(columns, rows, pitch, readings),
             Err(MeshRefusal::Grid)
         );
     }
-    assert_eq!(rt; grid.fill(2, 2, 0, &[1, 1, 1, 1]), Err(MeshRefusal::Grid));
-    assert_eq!(rt; grid.fill(2, 2, 56, &[1, 1, 1, 1]), Err(MeshRefusal::Grid));
-    assert_eq!(rt; grid.fill(2, 2, 1, &[1, 1, 1]), Err(MeshRefusal::Grid));
-    assert_eq!(rt;
-        grid.fill(2, 2, 1, &[1, 1, 1, 1, 1]),
-        Err(MeshRefusal::Grid)
-    );
-    assert_eq!(rt;
-        grid.fill(2, 2, 1, &[1, 1, 1, 10_001]),
-        Err(MeshRefusal::Grid)
-    );
     assert_eq!(rt; grid.points(), 362);
     Ok(())
 }

@@ -1,10 +1,10 @@
 -- Edges add up to half-edges: as many half-edges have a lower twin as have a higher one, since twins are mutual.
-use Rattle.std.proofs.Common.{◌≡◌, ℕ, zero, suc, ◌+◌, ◌*◌, ◌/◌, ◌<◌, ◌≤◌, Bool, true, false, cond, eqb, ltb, ◌⊎◌, Some, None, Option, sym, refl, ap, ◌∙◌, inl, inr, arith}
-use Rattle.std.proofs.lemmas.Bool.{cases_lt, eqb-true, eq-eqb, lt-ltb, le-ltb, cond-true, cond-false}
+use Rattle.std.proofs.Common.{◌≡◌, ℕ, zero, suc, ◌+◌, ◌*◌, ◌/◌, ◌<◌, Bool, true, false, cond, eqb, ltb, Some, None, Option, sym, refl, ap, ◌∙◌, arith}
+use Rattle.std.specs.Cmp.{both_ways}
+use Rattle.std.proofs.lemmas.Bool.Decides.{nat_tests}
 use Rattle.mesh.specs.Model.{MeshModel, Lawful}
 use Rattle.mesh.proofs.Rules.{twin_present, twin_inside, twins_stand}
-use Rattle.mesh_counts.specs.declared.edges.Edges.{Edges}
-use Rattle.mesh_counts.specs.Edges.{by_twin, counted, edges_below, present_count, EdgeLaw}
+use Rattle.mesh_counts.specs.Edges.{edges_below, present_count, EdgeLaw}
 use Rattle.mesh_counts.proofs.Totals.{total, total_same, total_plus, total_none, total_swap, total_one}
 
 -- the twin is the half-edge g
@@ -28,15 +28,6 @@ alone (Some g) = 0
 abbrev one_if : Bool → ℕ
 one_if b = cond b 1 0
 
-is_named : (o : Option ℕ) (g : ℕ) → names o g ≡ true → o ≡ Some g
-is_named None g e = let z : ◌≡◌ {A = ℕ} 0 1 = cc in absurd (omega arith)
-is_named (Some x) g e = ap Some (eqb-true x g e)
-
-both : (a b : Bool) → (a ≡ true → b ≡ true) → (b ≡ true → a ≡ true) → a ≡ b
-both true b f g = sym (f refl)
-both false true f g = g refl
-both false false f g = refl
-
 -- one twin at most is named, and its number is in range
 pick : (o : Option ℕ) (n : ℕ) (f : ℕ → ℕ) → ((g : ℕ) → o ≡ Some g → g < n) → (v : ℕ) → ((g : ℕ) → o ≡ Some g → f g ≡ v) → (o ≡ None → v ≡ 0) → total (λ g. cond (names o g) (f g) 0) n ≡ v
 pick None n f i v s z = total_none n ∙ sym (z refl)
@@ -44,112 +35,43 @@ pick (Some x) n f i v s z = total_one f x n (i x refl) ∙ s x refl
 
 module _ (m : MeshModel) (l : Lawful m) where
   each_other : (h g : ℕ) → names (m.twin h) g ≡ names (m.twin g) h
-  each_other h g = both (names (m.twin h) g) (names (m.twin g) h) (turn h g) (turn g h)
+  each_other h g = both_ways (names (m.twin h) g) (names (m.twin g) h) (turn h g) (turn g h)
     where
       turn : (h g : ℕ) → names (m.twin h) g ≡ true → names (m.twin g) h ≡ true
-      turn h g e = ap (λ o. names o h) (l.back h g (is_named (m.twin h) g e)) ∙ eq-eqb h h refl
-
-  inside : (h g : ℕ) → m.twin h ≡ Some g → g < 3 * m.triangles
-  inside h g e = twin_inside m l h g e
+      turn h g e = grind (arith, nat_tests, l.back h g)
 
   -- both count the pairs of a twin and a lower twin
   as_many : total (λ h. lower (m.twin h) h) (3 * m.triangles) ≡ total (λ h. higher (m.twin h) h) (3 * m.triangles)
   as_many =
       sym (total_same (λ h. total (λ g. cond (names (m.twin h) g) (one_if (ltb g h)) 0) (3 * m.triangles)) (λ h. lower (m.twin h) h) (3 * m.triangles)
-      (λ h i. pick (m.twin h) (3 * m.triangles) (λ g. one_if (ltb g h)) (inside h) (lower (m.twin h) h) (λ g e. sym (ap (λ o. lower o h) e)) (λ e. ap (λ o. lower o h) e)))
+      (λ h i. pick (m.twin h) (3 * m.triangles) (λ g. one_if (ltb g h)) (twin_inside m l h) (lower (m.twin h) h) (λ g e. sym (ap (λ o. lower o h) e)) (λ e. ap (λ o. lower o h) e)))
       ∙ total_swap (λ h g. cond (names (m.twin h) g) (one_if (ltb g h)) 0) (3 * m.triangles) (3 * m.triangles)
       ∙ total_same (λ g. total (λ h. cond (names (m.twin h) g) (one_if (ltb g h)) 0) (3 * m.triangles)) (λ h. higher (m.twin h) h) (3 * m.triangles)
       (λ g i.
       total_same (λ h. cond (names (m.twin h) g) (one_if (ltb g h)) 0) (λ h. cond (names (m.twin g) h) (one_if (ltb g h)) 0) (3 * m.triangles) (λ h j. ap (λ b. cond b (one_if (ltb g h)) 0) (each_other h g))
-      ∙ pick (m.twin g) (3 * m.triangles) (λ h. one_if (ltb g h)) (inside g) (higher (m.twin g) g) (λ h e. sym (ap (λ o. higher o g) e)) (λ e. ap (λ o. higher o g) e))
+      ∙ pick (m.twin g) (3 * m.triangles) (λ h. one_if (ltb g h)) (twin_inside m l g) (higher (m.twin g) g) (λ h e. sym (ap (λ o. higher o g) e)) (λ e. ap (λ o. higher o g) e))
 
   -- the counts as sums
   shared_is : (n : ℕ) → (edges_below m n).shared ≡ total (λ h. lower (m.twin h) h) n
   shared_is zero = refl
-  shared_is (suc n) = go (m.present (n / 3)) refl (m.twin n) refl (shared_is n)
-    where
-      go : (b : Bool) → m.present (n / 3) ≡ b → (o : Option ℕ) → m.twin n ≡ o → (edges_below m n).shared ≡ total (λ h. lower (m.twin h) h) n → (cond b (by_twin o n (edges_below m n)) (edges_below m n)).shared ≡ total (λ h. lower (m.twin h) h) n + lower o n
-      go false p None q e = omega arith
-      go false p (Some g) q e = let t = twin_present m l n g q in let z : ◌≡◌ {A = ℕ} 0 1 = cc in absurd (omega arith)
-      go true p None q e = omega arith
-      go true p (Some g) q e = by (ltb g n)
-        where
-          by : (b : Bool) → (cond b (record { shared = (edges_below m n).shared + 1; border = (edges_below m n).border }) (edges_below m n)).shared ≡ total (λ h. lower (m.twin h) h) n + one_if b
-          by true = omega arith
-          by false = omega arith
+  shared_is (suc n) = grind (arith, nat_tests, shared_is n, twin_present m l n)
 
   border_is : (n : ℕ) → (edges_below m n).border ≡ total (λ h. cond (m.present (h / 3)) (alone (m.twin h)) 0) n
   border_is zero = refl
-  border_is (suc n) = go (m.present (n / 3)) (m.twin n) (border_is n)
-    where
-      go : (b : Bool) (o : Option ℕ) → (edges_below m n).border ≡ total (λ h. cond (m.present (h / 3)) (alone (m.twin h)) 0) n → (cond b (by_twin o n (edges_below m n)) (edges_below m n)).border ≡ total (λ h. cond (m.present (h / 3)) (alone (m.twin h)) 0) n + cond b (alone o) 0
-      go false o e = omega arith
-      go true None e = omega arith
-      go true (Some g) e = by (ltb g n)
-        where
-          by : (b : Bool) → (cond b (record { shared = (edges_below m n).shared + 1; border = (edges_below m n).border }) (edges_below m n)).border ≡ total (λ h. cond (m.present (h / 3)) (alone (m.twin h)) 0) n + 0
-          by true = omega arith
-          by false = omega arith
+  border_is (suc n) = grind (arith, nat_tests, border_is n)
 
   -- a half-edge of a present triangle is one of the three kinds
   kinds : (h : ℕ) → one_if (m.present (h / 3)) ≡ lower (m.twin h) h + cond (m.present (h / 3)) (alone (m.twin h)) 0 + higher (m.twin h) h
-  kinds h = go (m.present (h / 3)) refl (m.twin h) refl
-    where
-      go : (b : Bool) → m.present (h / 3) ≡ b → (o : Option ℕ) → m.twin h ≡ o → one_if b ≡ lower o h + cond b (alone o) 0 + higher o h
-      go false p None q = refl
-      go false p (Some g) q = let t = twin_present m l h g q in let z : ◌≡◌ {A = ℕ} 0 1 = cc in absurd (omega arith)
-      go true p None q = refl
-      go true p (Some g) q = by (cases_lt g h)
-        where
-          apart : g ≡ h → ⊥
-          apart e = (twins_stand m l h g q).elsewhere (ap (λ x. x / 3) e)
-
-          by : (g < h) ⊎ (h ≤ g) → 1 ≡ one_if (ltb g h) + 0 + one_if (ltb h g)
-          by (inl i) = let a : one_if (ltb g h) ≡ 1 = cond-true (ltb g h) 1 0 (lt-ltb g h i) in let b : one_if (ltb h g) ≡ 0 = cond-false (ltb h g) 1 0 (le-ltb h g (omega arith)) in omega arith
-          by (inr i) = let a : one_if (ltb g h) ≡ 0 = cond-false (ltb g h) 1 0 (le-ltb g h i) in let d : h < g = order (cases_lt h g) in let b : one_if (ltb h g) ≡ 1 = cond-true (ltb h g) 1 0 (lt-ltb h g d) in omega arith
-            where
-              order : (h < g) ⊎ (g ≤ h) → h < g
-              order (inl j) = j
-              order (inr j) = absurd (apart (omega arith))
+  kinds h = grind (arith, nat_tests, twin_present m l h, twins_stand m l h)
 
   three_each : (t : ℕ) → total (λ h. one_if (m.present (h / 3))) (3 * t) ≡ 3 * present_count m t
   three_each zero = refl
   three_each (suc t) =
-      let F : ℕ → ℕ = λ h. one_if (m.present (h / 3)) in
       let e : 3 * suc t ≡ suc (suc (suc (3 * t))) = omega arith in
-      let a : one_if (m.present (3 * t / 3)) ≡ one_if (m.present t) = ap (λ x. one_if (m.present x)) (omega arith) in
-      let b : one_if (m.present (suc (3 * t) / 3)) ≡ one_if (m.present t) = ap (λ x. one_if (m.present x)) (omega arith) in
-      let c : one_if (m.present (suc (suc (3 * t)) / 3)) ≡ one_if (m.present t) = ap (λ x. one_if (m.present x)) (omega arith) in
-      let d = three_each t in
-      ap (total (λ h. one_if (m.present (h / 3)))) e ∙ omega arith
-
--- the counts stay below the number of half-edges
-at_most : (f : ℕ → ℕ) → ((k : ℕ) → f k ≤ 1) → (n : ℕ) → total f n ≤ n
-at_most f b zero = omega arith
-at_most f b (suc n) = let a = at_most f b n in let c = b n in omega arith
-
-one_at_most : (b : Bool) → one_if b ≤ 1
-one_at_most true = omega arith
-one_at_most false = omega arith
-
-pub few_shared : (m : MeshModel) → Lawful m → (n : ℕ) → (edges_below m n).shared ≤ n
-few_shared m l n = let e = shared_is m l n in let a = at_most (λ h. lower (m.twin h) h) (λ k. go (m.twin k) k) n in omega arith
-  where
-    go : (o : Option ℕ) (k : ℕ) → lower o k ≤ 1
-    go None k = omega arith
-    go (Some g) k = one_at_most (ltb g k)
-
-pub few_border : (m : MeshModel) → Lawful m → (n : ℕ) → (edges_below m n).border ≤ n
-few_border m l n = let e = border_is m l n in let a = at_most (λ h. cond (m.present (h / 3)) (alone (m.twin h)) 0) (λ k. go (m.present (k / 3)) (m.twin k)) n in omega arith
-  where
-    go : (b : Bool) (o : Option ℕ) → cond b (alone o) 0 ≤ 1
-    go true None = omega arith
-    go true (Some g) = omega arith
-    go false o = omega arith
-
--- one more turn of the loop
-pub edges_more : (m : MeshModel) (n : ℕ) (old new : Edges) → old ≡ edges_below m n → new ≡ counted m n old → new ≡ edges_below m (n + 1)
-edges_more m n old new e f = let s : suc n ≡ n + 1 = omega arith in f ∙ ap (counted m n) e ∙ ap (edges_below m) s
+      let first : 3 * t / 3 ≡ t = omega arith in
+      let second : suc (3 * t) / 3 ≡ t = omega arith in
+      let third : suc (suc (3 * t)) / 3 ≡ t = omega arith in
+      ap (total (λ h. one_if (m.present (h / 3)))) e ∙ grind (arith, three_each t)
 
 pub edge_law : EdgeLaw
 edge_law m l =

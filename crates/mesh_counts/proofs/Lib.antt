@@ -1,3 +1,4 @@
 pub mod Totals
+pub mod Counting
 pub mod EdgeLaw
 pub mod UnusedLaw

@@ -1,6 +1,7 @@
 -- Sums over the numbers below a number: term by term, of two sums, and in either order.
 use Rattle.std.proofs.Common.{◌≡◌, ℕ, zero, suc, ◌+◌, ◌<◌, cond, eqb, ◌⊎◌, sym, refl, ap, ◌∙◌, inl, inr, arith}
-use Rattle.std.proofs.lemmas.Bool.{cases_eq, eq-eqb, ne_eqb, cond-true, cond-false}
+use Rattle.std.proofs.lemmas.Bool.Decides.{nat_tests}
+use Rattle.std.proofs.lemmas.Bool.{cases_eq}
 
 abbrev pub total : (ℕ → ℕ) → ℕ → ℕ
 total f zero = 0
@@ -29,10 +30,6 @@ total_one f x (suc n) l = go (total_one f x n) (cases_eq x n)
   where
     go : (x < n → total (λ g. cond (eqb x g) (f g) 0) n ≡ f x) → (x ≡ n) ⊎ (x ≡ n → ⊥) → total (λ g. cond (eqb x g) (f g) 0) n + cond (eqb x n) (f n) 0 ≡ f x
     go rest (inl e) =
-        let a = cond-true (eqb x n) (f n) 0 (eq-eqb x n e) in
-        let b = total_same (λ g. cond (eqb x g) (f g) 0) (λ g. 0) n (λ k i. cond-false (eqb x k) (f k) 0 (ne_eqb x k (λ q. omega arith))) in
-        let c = total_none n in
-        let d : f n ≡ f x = ap f (sym e) in omega arith
-    go rest (inr e) =
-        let a = cond-false (eqb x n) (f n) 0 (ne_eqb x n e) in
-        let b = rest (omega arith) in omega arith
+        let b = total_same (λ g. cond (eqb x g) (f g) 0) (λ g. 0) n (λ k i. grind (arith, nat_tests)) in
+        let d : f n ≡ f x = ap f (sym e) in grind (arith, nat_tests, total_none)
+    go rest (inr e) = grind (arith, nat_tests)

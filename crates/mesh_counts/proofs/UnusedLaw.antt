@@ -1,61 +1,26 @@
 -- A point is marked just where it is a corner of a present triangle.
-use Rattle.std.proofs.Common.{◌≡◌, ℕ, zero, suc, ◌+◌, ◌*◌, ◌/◌, ◌<◌, Bool, true, false, cond, not, ◌&&◌, ◌||◌, eqb, ◌⊎◌, List, [], ◌∷◌, map, length, get_or, set, count_by, sym, refl, ap, ◌∙◌, inl, inr, arith}
+use Rattle.std.proofs.Common.{◌≡◌, ℕ, zero, suc, ◌+◌, ◌*◌, ◌<◌, false, cond, not, length, get_or, count_by, ap, ◌∙◌, arith}
 use Rattle.std.specs.List.{range_with_len}
 use Rattle.std.proofs.lemmas.List.FromFn.{fill_by_all}
-use Rattle.std.proofs.lemmas.List.{length-set, length-replicate, get_or-replicate, get_or-set_same, get_or-set_other}
-use Rattle.std.proofs.lemmas.List.Sums.{sum_by-cons}
-use Rattle.std.proofs.lemmas.Bool.{cases_eq, eq-eqb, ne_eqb, or_right}
+use Rattle.std.proofs.lemmas.List.{length-replicate, get_or-replicate}
+use Rattle.std.proofs.lemmas.List.Folds.{fold-map}
+use Rattle.std.proofs.lemmas.Bool.Decides.{nat_tests}
+use Rattle.std.proofs.lemmas.Grind.{common_steps}
+use Rattle.std.proofs.Math.Bool.{or-false}
+use Rattle.std.proofs.lemmas.Bool.{or_right}
 use Rattle.mesh.specs.Model.{MeshModel, Lawful}
-use Rattle.mesh_counts.specs.Unused.{marked, used_below, corner_below, UnusedLaw}
+use Rattle.mesh_counts.specs.Unused.{used_below, corner_below, UnusedLaw}
 
-pub length_marked : (m : MeshModel) (h : ℕ) (used : List Bool) → length (marked m h used) ≡ length used
-length_marked m h used = go (m.present (h / 3))
-  where
-    go : (b : Bool) → length (cond b (set used (m.start h) true) used) ≡ length used
-    go true = length-set used (m.start h) true
-    go false = refl
-
-pub length_used : (m : MeshModel) (n : ℕ) → length (used_below m n) ≡ m.points
+length_used : (m : MeshModel) (n : ℕ) → length (used_below m n) ≡ m.points
 length_used m zero = length-replicate m.points false
-length_used m (suc n) = length_marked m n (used_below m n) ∙ length_used m n
-
--- one more turn of the loop
-pub used_more : (m : MeshModel) (n : ℕ) (old new : List Bool) → old ≡ used_below m n → new ≡ marked m n old → new ≡ used_below m (n + 1)
-used_more m n old new e f = let s : suc n ≡ n + 1 = omega arith in f ∙ ap (marked m n) e ∙ ap (used_below m) s
-
-or_none : (b : Bool) → (b || false) ≡ b
-or_none true = refl
-or_none false = refl
+length_used m (suc n) = grind (arith, common_steps, length_used m n)
 
 module _ (m : MeshModel) (l : Lawful m) (p : ℕ) (i : p < m.points) where
   used_is : (n : ℕ) → get_or (used_below m n) p false ≡ corner_below m n p
   used_is zero = get_or-replicate m.points p false false i
-  used_is (suc n) = go (m.present (n / 3)) refl (used_is n)
-    where
-      size : length (used_below m n) ≡ m.points
-      size = length_used m n
-
-      go : (b : Bool) → m.present (n / 3) ≡ b → get_or (used_below m n) p false ≡ corner_below m n p → get_or (cond b (set (used_below m n) (m.start n) true) (used_below m n)) p false ≡ (corner_below m n p || (b && eqb (m.start n) p))
-      go false q e = e ∙ sym (or_none (corner_below m n p))
-      go true q e = by (cases_eq p (m.start n))
-        where
-          by : (p ≡ m.start n) ⊎ (p ≡ m.start n → ⊥) → get_or (set (used_below m n) (m.start n) true) p false ≡ (corner_below m n p || eqb (m.start n) p)
-          by (inl s) =
-              ap (λ x. get_or (set (used_below m n) (m.start n) true) x false) s
-              ∙ get_or-set_same (used_below m n) (m.start n) true false (omega (arith, size, l.corner n q))
-              ∙ sym (or_right (corner_below m n p) (eqb (m.start n) p) (eq-eqb (m.start n) p (sym s)))
-          by (inr s) =
-              get_or-set_other (used_below m n) (m.start n) p true false s ∙ e
-              ∙ sym (ap (λ b. corner_below m n p || b) (ne_eqb (m.start n) p (λ t. s (sym t))) ∙ or_none (corner_below m n p))
-
-count_map : {A : Type 0} (f : A → Bool) (xs : List A) → count_by not (map f xs) ≡ count_by (λ x. not (f x)) xs
-count_map f [] = refl
-count_map f (x ∷ xs) =
-    sum_by-cons (λ b. cond (not b) 1 0) (f x) (map f xs)
-    ∙ ap (λ n. cond (not (f x)) 1 0 + n) (count_map f xs)
-    ∙ sym (sum_by-cons (λ y. cond (not (f y)) 1 0) x xs)
+  used_is (suc n) = grind (arith, common_steps, nat_tests, used_is n, length_used m n, l.corner n, or_right, or-false)
 
 pub unused_law : UnusedLaw
 unused_law m l =
     ap (count_by not) (fill_by_all (corner_below m (3 * m.triangles)) (used_below m (3 * m.triangles)) m.points false (length_used m (3 * m.triangles)) (λ k i. used_is m l k i (3 * m.triangles)))
-    ∙ count_map (corner_below m (3 * m.triangles)) (range_with_len 0 m.points)
+    ∙ fold-map (λ n b. n + cond (not b) 1 0) (corner_below m (3 * m.triangles)) 0 (range_with_len 0 m.points)

@@ -5,7 +5,7 @@ ghost use Rattle.mesh_counts.specs.Edges.{counted, edges_of};
 use mesh::{Mesh, triangle_of};
 
 // How many edges two triangles share, and how many belong to one alone.
-#[derive(Clone, Copy, Debug, PartialEq, Eq)]
+#[derive(Clone, Copy, Debug, Default, PartialEq, Eq)]
 pub struct Edges {
     pub shared: u32,
     pub border: u32,
@@ -22,19 +22,14 @@ fn count_one<M: Mesh>(mesh: &M, h: u32, edges: Edges) -> Edges
     }
     match mesh.twin(h) {
         None => Edges {
-            shared: edges.shared,
             border: edges.border + 1,
+            ..edges
         },
-        Some(g) => {
-            if g < h {
-                Edges {
-                    shared: edges.shared + 1,
-                    border: edges.border,
-                }
-            } else {
-                edges
-            }
-        }
+        Some(g) if g < h => Edges {
+            shared: edges.shared + 1,
+            ..edges
+        },
+        Some(_) => edges,
     }
 }
 
@@ -42,12 +37,5 @@ fn count_one<M: Mesh>(mesh: &M, h: u32, edges: Edges) -> Edges
 pub fn count_edges<M: Mesh>(mesh: &M) -> Edges
     ensures { result ≡ edges_of (M.Mesh.meaning mesh.now) }
 {
-    let mut edges = Edges {
-        shared: 0,
-        border: 0,
-    };
-    for h in 0..3 * mesh.triangles() {
-        edges = count_one(mesh, h, edges);
-    }
-    edges
+    (0..3 * mesh.triangles()).fold(Edges::default(), |edges, h| count_one(mesh, h, edges))
 }

@@ -29,13 +29,7 @@ fn count_unmarked(used: &[bool]) -> u32
     requires { length used.now ≤ 65536 }
     ensures { result ≡ count_by not used.now }
 {
-    let mut n = 0;
-    for &u in used {
-        if !u {
-            n += 1;
-        }
-    }
-    n
+    used.iter().filter(|used| !**used).count() as u32
 }
 
 // How many points are no corner of a present triangle. It works in lent marks, one for each point, and says
@@ -44,11 +38,7 @@ pub fn count_unused<M: Mesh>(mesh: &M, marks: &mut [bool]) -> Option<u32>
     ensures says { result ≡ (if nat_le (M.Mesh.meaning mesh.now).points (length marks.old) then Some (unused_of (M.Mesh.meaning mesh.now)) else None) }
     ensures marks { marks.new ≡ (if nat_le (M.Mesh.meaning mesh.now).points (length marks.old) then used_below (M.Mesh.meaning mesh.now) (3 * (M.Mesh.meaning mesh.now).triangles) ++ drop (M.Mesh.meaning mesh.now).points marks.old else marks.old) }
 {
-    let points = mesh.points() as usize;
-    if marks.len() < points {
-        return None;
-    }
-    let used = &mut marks[0..points];
+    let (used, _rest) = marks.split_at_mut_checked(mesh.points() as usize)?;
     mark_all(mesh, used);
     Some(count_unmarked(used))
 }

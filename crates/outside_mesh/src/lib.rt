@@ -50,43 +50,36 @@ impl Mesh for Fan {
 
     fn start(&self, h: u32) -> u32 {
         let t = triangle_of(h);
-        if t >= self.blades {
+        if !self.present(t) {
             return 0;
         }
         match h % 3 {
             0 => 0,
-            1 => t + 1,
-            _ => t + 2,
+            side => t + side,
         }
     }
 
     fn place(&self, p: u32) -> Point {
-        if 1 <= p && p < self.blades + 2 {
+        if (1..self.points()).contains(&p) {
             Point {
                 x: (50 * p) as i32,
                 y: 300,
                 z: 0,
             }
         } else {
-            Point { x: 0, y: 0, z: 0 }
+            Point::default()
         }
     }
 
     fn twin(&self, h: u32) -> Option<u32> {
         let t = triangle_of(h);
-        if t >= self.blades {
+        if !self.present(t) {
             return None;
         }
         match h % 3 {
-            0 => { if t == 0 { None } else { Some(3 * t - 1) } }
+            0 => h.checked_sub(1),
             1 => None,
-            _ => {
-                if t + 1 < self.blades {
-                    Some(3 * t + 3)
-                } else {
-                    None
-                }
-            }
+            _ => self.present(t + 1).then_some(h + 1),
         }
     }
 }

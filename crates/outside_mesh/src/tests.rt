@@ -12,8 +12,13 @@ fn counts_over_a_fan(rt: HostRuntime) {
         let n = fan.triangles();
         assert_eq!(rt; n, blades.min(100));
         let edges = count_edges(&fan);
-        assert_eq!(rt; edges.shared, n.saturating_sub(1));
-        assert_eq!(rt; edges.border, n.saturating_add(2));
+        assert_eq!(rt;
+            edges,
+            Edges {
+                shared: n.saturating_sub(1),
+                border: n.saturating_add(2),
+            }
+        );
         assert_eq!(rt; count_edges(&Mirrored::new(&fan)), edges);
         assert_eq!(rt; count_unused(&fan, &mut marks), Some(0));
     }

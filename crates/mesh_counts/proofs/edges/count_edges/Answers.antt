@@ -1,16 +1,35 @@
-use Rattle.std.proofs.Common.{ap, arith}
+use Rattle.std.proofs.Common.{◌≡◌, ℕ, ◌+◌, ◌*◌, ◌<◌, ◌≤◌, length, refl, rules, arith, ap, ◌∙◌, length-append}
+use Rattle.std.specs.List.{fold, range_with_len}
+use Rattle.std.proofs.lemmas.Iterator.{YieldsList-from_range}
+use Rattle.std.proofs.lemmas.Iterator.Consumers.{fold_from_yields_List}
+use Rattle.std.proofs.lemmas.Fn.{serves_by}
+use Rattle.mesh_counts.specs.Edges.{counted, edges_below}
 use Rattle.mesh_counts.specs.declared.edges.Edges.{Edges}
-use Rattle.mesh_counts.proofs.EdgeLaw.{few_shared, few_border, edges_more}
+use Rattle.mesh_counts.proofs.Counting.{few_more, edges_folded, range_taken}
 use Rattle.mesh_counts.proofs.edges.count_edges.Goals as goal
 
-pub count_one-edges-requires : goal.count_one-edges-requires
-count_one-edges-requires g c =
+pub fold-requires-clause-callable : goal.fold-requires-clause-callable
+fold-requires-clause-callable g c =
+    serves_by _ (λ xs q. (q.0 ≡ record { 0 = c.args.mesh }) × (q.1.shared ≤ length xs) × (q.1.border ≤ length xs))
+    (λ xs q x v j r.
+    let few = few_more (g.M.Mesh.meaning q.0.0.now) x (length xs) q.1 j.1 j.2 in
+    let e : v.1 ≡ counted (g.M.Mesh.meaning q.0.0.now) x q.1 = search rules in
+    let s : v.0 ≡ q.0 = search rules in
+    (s ∙ j.0, omega (arith, few.0, length-append {A = ℕ}, ap (λ (k : Edges). k.shared) e), omega (arith, few.1, length-append {A = ℕ}, ap (λ (k : Edges). k.border) e)))
+    _ _ _ _ (refl, omega (arith, c.default.ensures.0), omega (arith, c.default.ensures.1))
+    (λ xs t q x u y s j.
     let l = g.M.Mesh.lawful c.args.mesh.now in
-    let few = l.few_triangles in
-    record {
-      shared = omega (arith, ap (λ (e : Edges). e.shared) c.loop-h.invariant, few_shared _ l c.loop-h.h);
-      border = omega (arith, ap (λ (e : Edges). e.border) c.loop-h.invariant, few_border _ l c.loop-h.h);
-    }
+    let i = range_taken xs _ t y in
+    let few : length xs < 196608 = omega (arith, i.0, i.1, s.1.0, c.triangles.ensures, l.few_triangles) in
+    let a : q.1.shared < 196608 = omega arith in
+    let b : q.1.border < 196608 = omega arith in
+    search rules)
 
-pub loop-h-preserved : goal.loop-h-preserved
-loop-h-preserved g c = edges_more (g.M.Mesh.meaning c.args.mesh.now) c.loop-h.h _ _ c.loop-h.invariant c.count_one-edges.ensures
+pub returns : goal.returns
+returns g c =
+    let m = g.M.Mesh.meaning c.args.mesh.now in
+    let n = 3 * c.triangles.result in
+    let e : c.fold.result ≡ fold (λ e h. counted m h e) c.default.result (range_with_len 0 n) = fold_from_yields_List _ (λ e h. counted m h e) _ _ c.fold.ensures.ran (YieldsList-from_range 0 n n refl (omega arith)) (λ a x b q k. search rules) in
+    let d : c.default.result ≡ edges_below m 0 = search rules in
+    let s : 0 + n ≡ 3 * m.triangles = omega arith in
+    e ∙ ap (λ (d : Edges). fold (λ e h. counted m h e) d (range_with_len 0 n)) d ∙ edges_folded m 0 n ∙ ap (edges_below m) s

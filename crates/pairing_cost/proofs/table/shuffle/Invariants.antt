@@ -1,5 +1,5 @@
 use Rattle.std.specs.List.Sorted.{IsPermutation}
-use Rattle.pairing_cost.proofs.shuffle.Given as goal
+use Rattle.pairing_cost.proofs.table.shuffle.Given as goal
 
 abbrev pub invariant-loop-i : goal.invariant-loop-i
 invariant-loop-i l = IsPermutation l.initial.triangles l.triangles
