@@ -1,9 +1,8 @@
 -- The box of some points is the smallest that holds them. Assumes nothing.
-use Rattle.std.proofs.Common.{◌≡◌, ℕ, ◌<◌, ◌≤◌, List, [], ◌∷◌, length, get_or, take, ℤ, pos, ◌≤ℤ◌, Some, fold, ap, ◌∙◌, subst, arith}
+use Rattle.std.proofs.Common.{◌≡◌, ℕ, List, [], ◌∷◌, slice_get, ℤ, ◌≤ℤ◌, Some, fold, subst, arith}
 use lib.Signed.{≤ℤ_refl}
 use Rattle.std.specs.Int.{int_min, int_max}
 use Rattle.std.specs.List.{AllByRecursion}
-use Rattle.std.proofs.lemmas.List.{take_all}
 use Rattle.std.proofs.lemmas.Int.{ints}
 use Rattle.mesh.specs.declared.Point.{Point}
 use Rattle.set_report.specs.declared.bounds.BoundingBox.{BoundingBox}
@@ -97,10 +96,7 @@ smallest (p ∷ ps) b e =
           (w.low, w.high),
     )
 
-abbrev pub origin : Point
-origin = record { x = pos 0; y = pos 0; z = pos 0 }
-
--- the first point's box, grown over all
-pub grown : (ps : List Point) (b : BoundingBox) (i : ℕ) → 0 < length ps → length ps ≤ i → b ≡ fold widened (record { low = get_or ps 0 origin; high = get_or ps 0 origin }) (take i ps) → Some b ≡ bounds_of ps
-grown [] b i h k e = absurd (omega arith)
-grown (p ∷ ps) b i h k e = ap Some (e ∙ ap (fold widened (record { low = p; high = p })) (take_all i (p ∷ ps) k))
+-- the box of the first point, grown over all
+pub grown : (ps : List Point) (p : Point) (b : BoundingBox) → slice_get ps 0 ≡ Some p → b ≡ fold widened (record { low = p; high = p }) ps → Some b ≡ bounds_of ps
+grown [] p b h e = cc
+grown (q ∷ ps) p b h e = cc

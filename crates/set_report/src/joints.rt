@@ -17,15 +17,14 @@ pub struct Joints {
 }
 
 // The twin list of triangles that keep the rules of a mesh.
+#[tactic(auto, unfolding(mesh::specs::Stored::lists_fit))]
 fn twins_of(heap: Global, points: &[Point], triangles: &[Triangle]) -> Result<Vec<u32>, AllocError>
     requires { set_fits points.now triangles.now ≡ true }
     ensures { IfOk result (λ v. v.items ≡ pairing triangles.now) }
 {
     let mut twins = vec![in heap; NO_TWIN; 3 * triangles.len()]?;
-    match pair(points, triangles, twins.as_mut_slice()) {
-        Ok(()) => Ok(twins),
-        Err(_) => unreachable(),
-    }
+    pair(points, triangles, twins.as_mut_slice()).unwrap();
+    Ok(twins)
 }
 
 // Counts over the stored mesh of lists that keep all rules, with a mark for each point.
@@ -40,15 +39,10 @@ fn count<'a>(
     ensures { result ≡ counts_of (stored points.now triangles.now twins.now) }
 {
     let mut mesh = StoredMesh::empty();
-    match mesh.fill(points, triangles, twins) {
-        Ok(()) => {
-            let edges = count_edges(&mesh);
-            match count_unused(&mesh, marks) {
-                Some(unused) => Joints { edges, unused },
-                None => unreachable(),
-            }
-        }
-        Err(_) => unreachable(),
+    mesh.fill(points, triangles, twins).unwrap();
+    Joints {
+        edges: count_edges(&mesh),
+        unused: count_unused(&mesh, marks).unwrap(),
     }
 }
 
