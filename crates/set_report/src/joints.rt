@@ -23,30 +23,12 @@ fn twins_of(heap: Global, points: &[Point], triangles: &[Triangle]) -> Result<Ve
     ensures { IfOk result (λ v. v.items ≡ pairing triangles.now) }
 {
     let mut twins = vec![in heap; NO_TWIN; 3 * triangles.len()]?;
-    pair(points, triangles, twins.as_mut_slice()).unwrap();
+    pair(points, triangles, &mut twins).unwrap();
     Ok(twins)
 }
 
-// Counts over the stored mesh of lists that keep all rules, with a mark for each point.
-fn count<'a>(
-    points: &'a [Point],
-    triangles: &'a [Triangle],
-    twins: &'a [u32],
-    marks: &mut [bool],
-) -> Joints
-    requires lists { stored_fits points.now triangles.now twins.now ≡ true }
-    requires marks { length marks.old ≡ length points.now }
-    ensures { result ≡ counts_of (stored points.now triangles.now twins.now) }
-{
-    let mut mesh = StoredMesh::empty();
-    mesh.fill(points, triangles, twins).unwrap();
-    Joints {
-        edges: count_edges(&mesh),
-        unused: count_unused(&mesh, marks).unwrap(),
-    }
-}
-
 // Pairs a set that keeps the rules of places and corners, and counts. It finds memory, or gives up.
+#[tactic(auto, using(mesh::proofs::PairedRules::pairs_stand), unfolding(crate::specs::Joints::joints_of))]
 pub(crate) fn joints_of(
     heap: Global,
     points: &[Point],
@@ -57,7 +39,13 @@ pub(crate) fn joints_of(
 {
     let twins = twins_of(heap, points, triangles)?;
     let mut marks = vec![in heap; false; points.len()]?;
-    Ok(count(points, triangles, twins.as_slice(), marks.as_mut_slice()))
+    let mut mesh = StoredMesh::empty();
+    mesh.fill(points, triangles, &twins).unwrap();
+    let unused = count_unused(&mesh, &mut marks).unwrap();
+    Ok(Joints {
+        edges: count_edges(&mesh),
+        unused,
+    })
 }
 
 #[cfg(test)]

@@ -92,15 +92,15 @@ impl fmt::Display for Text<'_> {
     ghost output = { λ text. Some (report_text text.report.now text.bytes.now) };
 
     fn fmt<W: fmt::Write>(&self, f: &mut fmt::Formatter<W>) -> fmt::Result {
+        let Text { report, bytes } = *self;
         let Report {
             points,
             triangles,
             bounds,
             fault,
-        } = *self.report;
+        } = *report;
         writeln!(f, "points: {points}\ntriangles: {triangles}")?;
         bounds_line(f, bounds)?;
-        let bytes = self.bytes;
         write!(f, "{}", Verdict { fault, bytes })
     }
 }
