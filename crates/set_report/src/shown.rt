@@ -1,6 +1,6 @@
 // A word of a file as text: a file may hold any bytes, and a terminal should not.
 ghost use Rattle.std.specs.Prelude.{◌≡◌, IfOk, string_bytes, Some};
-ghost use Rattle.set_report.specs.Shown.{shown_byte, shown_of};
+ghost use Rattle.set_report.specs.Shown.{shown_byte, shown_bytes, shown_of};
 
 use std::alloc::{AllocError, Global};
 use std::fmt;
@@ -15,6 +15,7 @@ struct ShownByte(u8);
 impl fmt::Display for ShownByte {
     ghost output = { λ b. Some (shown_byte b.0) };
 
+    #[tactic(auto, using(std::proofs::lemmas::Fmt::hex_byte))]
     fn fmt<W: fmt::Write>(&self, f: &mut fmt::Formatter<W>) -> fmt::Result {
         let b = self.0;
         if b.is_ascii_graphic() && b != b'\\' {
@@ -22,6 +23,21 @@ impl fmt::Display for ShownByte {
         } else {
             write!(f, "\\x{b:02x}")
         }
+    }
+}
+
+// All of some bytes.
+#[derive(Clone, Copy)]
+struct ShownBytes<'a>(&'a [u8]);
+
+impl fmt::Display for ShownBytes<'_> {
+    ghost output = { λ bytes. Some (shown_bytes bytes.0.now) };
+
+    fn fmt<W: fmt::Write>(&self, f: &mut fmt::Formatter<W>) -> fmt::Result {
+        for &b in self.0 {
+            write!(f, "{}", ShownByte(b))?;
+        }
+        Ok(())
     }
 }
 
@@ -33,14 +49,13 @@ impl fmt::Display for Shown<'_> {
     ghost output = { λ word. Some (shown_of word.0.now) };
 
     fn fmt<W: fmt::Write>(&self, f: &mut fmt::Formatter<W>) -> fmt::Result {
-        let (head, rest) = self.0.split_at(self.0.len().min(SHOWN_BYTES));
-        for &b in head {
-            write!(f, "{}", ShownByte(b))?;
+        let word = self.0;
+        if word.len() <= SHOWN_BYTES {
+            write!(f, "{}", ShownBytes(word))
+        } else {
+            let (head, _) = word.split_at(SHOWN_BYTES);
+            write!(f, "{}...", ShownBytes(head))
         }
-        if !rest.is_empty() {
-            write!(f, "...")?;
-        }
-        Ok(())
     }
 }
 
