@@ -11,15 +11,6 @@ use set_file::{FileFault, LIBRARY_LIMIT, Refusal, word_at};
 use std::alloc::{AllocError, Global};
 use std::fmt;
 
-fn bounds_line<W: fmt::Write>(f: &mut fmt::Formatter<W>, bounds: Option<BoundingBox>) -> fmt::Result
-    ensures { WritesOnOk W.write_str_gives f.old result (bounds_text bounds) f.new }
-{
-    match bounds {
-        Some(bounds) => writeln!(f, "box: {bounds}"),
-        None => writeln!(f, "box: none"),
-    }
-}
-
 // The question that a fault answers with no. The limit on the file's length is the one of a report.
 #[derive(Clone, Copy)]
 struct Question(FileFault);
@@ -35,29 +26,11 @@ impl fmt::Display for Question {
     }
 }
 
-fn heading<W: fmt::Write>(f: &mut fmt::Formatter<W>, refusal: Option<Refusal>) -> fmt::Result
-    ensures { WritesOnOk W.write_str_gives f.old result (heading_text refusal) f.new }
-{
-    match refusal {
-        Some(refusal) => writeln!(f, "{refusal}"),
-        None => writeln!(f, "out of memory"),
-    }
-}
-
 // The word that a refusal names, if it names one.
 fn named_word<'a>(bytes: &'a [u8], refusal: Option<Refusal>) -> Option<&'a [u8]>
     ensures { option_map (λ x. x.now) result ≡ named_word bytes.now refusal }
 {
     word_at(bytes, refusal?.at)
-}
-
-fn word_line<W: fmt::Write>(f: &mut fmt::Formatter<W>, word: Option<&[u8]>) -> fmt::Result
-    ensures { WritesOnOk W.write_str_gives f.old result (word_text (option_map (λ x. x.now) word.entry)) f.new }
-{
-    match word {
-        Some(word) => writeln!(f, "word: {}", Shown(word)),
-        None => Ok(()),
-    }
 }
 
 // Why a file of these bytes is refused: what is refused and where, the question, and the word.
@@ -75,9 +48,15 @@ impl fmt::Display for Verdict<'_> {
             return writeln!(f, "this set can be loaded");
         };
         let refusal = fault.refusal();
-        heading(f, refusal)?;
+        match refusal {
+            Some(refusal) => writeln!(f, "{refusal}")?,
+            None => writeln!(f, "out of memory")?,
+        }
         writeln!(f, "question: {}", Question(fault))?;
-        word_line(f, named_word(self.bytes, refusal))
+        match named_word(self.bytes, refusal) {
+            Some(word) => writeln!(f, "word: {}", Shown(word)),
+            None => Ok(()),
+        }
     }
 }
 
@@ -100,7 +79,10 @@ impl fmt::Display for Text<'_> {
             fault,
         } = *report;
         writeln!(f, "points: {points}\ntriangles: {triangles}")?;
-        bounds_line(f, bounds)?;
+        match bounds {
+            Some(bounds) => writeln!(f, "box: {bounds}")?,
+            None => writeln!(f, "box: none")?,
+        }
         write!(f, "{}", Verdict { fault, bytes })
     }
 }
