@@ -1,8 +1,7 @@
 // The text of a report, for people.
 ghost use Rattle.std.specs.Prelude.{◌≡◌, IfOk, string_bytes, Some};
 ghost use Rattle.std.specs.Option.{option_map};
-ghost use Rattle.std.specs.Fmt.{WritesOnOk};
-ghost use Rattle.set_report.specs.Texts.{bounds_text, heading_text, file_question, named_word, word_text, fault_text, verdict_text, report_text};
+ghost use Rattle.set_report.specs.Texts.{file_question, named_word, verdict_text, report_text};
 
 use crate::bounds::BoundingBox;
 use crate::report::Report;
@@ -11,7 +10,7 @@ use set_file::{FileFault, LIBRARY_LIMIT, Refusal, word_at};
 use std::alloc::{AllocError, Global};
 use std::fmt;
 
-// The question that a fault answers with no. The limit on the file's length is the one of a report.
+// The question that a fault answers with no. How long a file may be is for its reader to say, here `report_on`.
 #[derive(Clone, Copy)]
 struct Question(FileFault);
 
@@ -33,7 +32,8 @@ fn named_word<'a>(bytes: &'a [u8], refusal: Option<Refusal>) -> Option<&'a [u8]>
     word_at(bytes, refusal?.at)
 }
 
-// Why a file of these bytes is refused: what is refused and where, the question, and the word.
+// Whether a file of these bytes can be loaded and, if not, why: what is refused and where, the question, and
+// the word.
 #[derive(Clone, Copy)]
 struct Verdict<'a> {
     fault: Option<FileFault>,
@@ -53,14 +53,14 @@ impl fmt::Display for Verdict<'_> {
             None => writeln!(f, "out of memory")?,
         }
         writeln!(f, "question: {}", Question(fault))?;
-        match named_word(self.bytes, refusal) {
-            Some(word) => writeln!(f, "word: {}", Shown(word)),
-            None => Ok(()),
+        if let Some(word) = named_word(self.bytes, refusal) {
+            writeln!(f, "word: {}", Shown(word))?;
         }
+        Ok(())
     }
 }
 
-// A report on a file of these bytes, as text.
+// A report on a file of these bytes, which tell the word that it shows.
 #[derive(Clone, Copy)]
 struct Text<'a> {
     report: &'a Report,
