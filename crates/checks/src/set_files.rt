@@ -1,27 +1,27 @@
 // Set files at the edge of every question.
 use mesh::{Point, Triangle};
 use set_file::{FileFault, LIBRARY_LIMIT, PROGRAM_LIMIT, Place, Refusal, read};
-use std::alloc::{AllocError, Global};
 use std::process::Abort;
 use std::test::Fail;
 
-// A file, what is refused of it (`number` is 0 where nothing is), and how much is in the lists then.
+// A file, what is refused of it, and how much is in the lists then.
 #[derive(Clone, Copy)]
 struct Case {
     file: &'static [u8],
-    number: u32,
-    line: usize,
-    word: usize,
+    refusal: Option<Refusal>,
     points: usize,
     triangles: usize,
+}
+
+const fn refused(number: u32, line: usize, word: usize) -> Option<Refusal> {
+    let at = Place { line, word };
+    Some(Refusal { number, at })
 }
 
 const fn good(file: &'static [u8], points: usize, triangles: usize) -> Case {
     Case {
         file,
-        number: 0,
-        line: 0,
-        word: 0,
+        refusal: None,
         points,
         triangles,
     }
@@ -37,41 +37,26 @@ const fn bad(
 ) -> Case {
     Case {
         file,
-        number,
-        line,
-        word,
+        refusal: refused(number, line, word),
         points,
         triangles,
     }
 }
 
 fn told(answer: Result<(), FileFault>) -> Option<Refusal> {
-    match answer {
-        Ok(()) => None,
-        Err(fault) => fault.refusal(),
+    answer.err().and_then(FileFault::refusal)
+}
+
+fn all_hold(rt: &(impl Abort + AllocGlobal), cases: &[Case]) {
+    for case in cases {
+        let mut points = Vec::new(rt.alloc());
+        let mut triangles = Vec::new(rt.alloc());
+        let answer = read(case.file, PROGRAM_LIMIT, &mut points, &mut triangles);
+        assert_eq!(rt; told(answer), case.refusal);
+        assert_eq!(rt; answer.is_ok(), case.refusal.is_none());
+        assert_eq!(rt; points.len(), case.points);
+        assert_eq!(rt; triangles.len(), case.triangles);
     }
-}
-
-fn refused(number: u32, line: usize, word: usize) -> Option<Refusal> {
-    let at = Place { line, word };
-    Some(Refusal { number, at })
-}
-
-fn expected(case: Case) -> Option<Refusal> {
-    if case.number == 0 {
-        return None;
-    }
-    refused(case.number, case.line, case.word)
-}
-
-fn holds(rt: &impl Abort, heap: Global, case: Case) {
-    let mut points = Vec::new(heap);
-    let mut triangles = Vec::new(heap);
-    let answer = read(case.file, PROGRAM_LIMIT, &mut points, &mut triangles);
-    assert_eq!(rt; told(answer), expected(case));
-    assert_eq!(rt; answer.is_ok(), case.number == 0);
-    assert_eq!(rt; points.len(), case.points);
-    assert_eq!(rt; triangles.len(), case.triangles);
 }
 
 #[test]
@@ -94,9 +79,7 @@ fn lines_and_words(rt: HostRuntime) {
         bad(b"v 1 2 3 # no comment here", 3, 1, 0, 0, 0),
         bad(b"v", 3, 1, 0, 0, 0),
     ];
-    for case in cases {
-        holds(&rt, rt.alloc(), case);
-    }
+    all_hold(&rt, &cases);
 }
 
 #[test]
@@ -122,9 +105,7 @@ fn numbers(rt: HostRuntime) {
         bad(b"v 10001 x 0", 5, 1, 2, 0, 0),
         bad(b"v 0 0 0\nv x 10001 0", 4, 2, 2, 1, 0),
     ];
-    for case in cases {
-        holds(&rt, rt.alloc(), case);
-    }
+    all_hold(&rt, &cases);
 }
 
 #[test]
@@ -148,47 +129,32 @@ fn faces(rt: HostRuntime) {
             2,
         ),
     ];
-    for case in cases {
-        holds(&rt, rt.alloc(), case);
-    }
+    all_hold(&rt, &cases);
 }
 
-// A file of so many bytes, all of them a comment.
-fn comment(heap: Global, size: usize) -> Result<Vec<u8>, AllocError> {
-    let mut bytes = Vec::new(heap);
-    for _ in 0..size {
-        bytes.push(b'#')?;
-    }
-    Ok(bytes)
-}
-
-fn limit_holds(rt: &impl Abort, heap: Global, limit: usize) -> Result<(), Fail> {
-    let mut points = Vec::new(heap);
-    let mut triangles = Vec::new(heap);
-    let mut file = comment(heap, limit)?;
-    assert!(rt; read(file.as_slice(), limit, &mut points, &mut triangles).is_ok());
+// A comment may fill a file up to the limit, and one byte more is refused.
+fn limit_holds(rt: &(impl Abort + AllocGlobal), limit: usize) -> Result<(), Fail> {
+    let mut points = Vec::new(rt.alloc());
+    let mut triangles = Vec::new(rt.alloc());
+    let mut file = vec![in rt.alloc(); b'#'; limit]?;
+    assert!(rt; read(&file, limit, &mut points, &mut triangles).is_ok());
     file.push(b'#')?;
-    let answer = read(file.as_slice(), limit, &mut points, &mut triangles);
+    let answer = read(&file, limit, &mut points, &mut triangles);
     assert_eq!(rt; told(answer), refused(1, 0, 0));
     Ok(())
 }
 
 #[test]
 fn sizes(rt: HostRuntime) -> Result<(), Fail> {
-    limit_holds(&rt, rt.alloc(), 0)?;
-    limit_holds(&rt, rt.alloc(), PROGRAM_LIMIT)?;
-    limit_holds(&rt, rt.alloc(), LIBRARY_LIMIT)
+    limit_holds(&rt, 0)?;
+    limit_holds(&rt, PROGRAM_LIMIT)?;
+    limit_holds(&rt, LIBRARY_LIMIT)
 }
 
 #[test]
 fn full_lists(rt: HostRuntime) -> Result<(), Fail> {
-    let heap = rt.alloc();
-    let mut points = Vec::new(heap);
-    let mut triangles = Vec::new(heap);
-    for _ in 0..65535 {
-        points.push(Point { x: 0, y: 0, z: 0 })?;
-        triangles.push(Triangle { a: 0, b: 1, c: 2 })?;
-    }
+    let mut points = vec![in rt.alloc(); Point { x: 0, y: 0, z: 0 }; 65535]?;
+    let mut triangles = vec![in rt.alloc(); Triangle { a: 0, b: 1, c: 2 }; 65535]?;
     let answer = read(
         b"v 1 2 3\nf 1 2 65536\nf 2 1 3",
         PROGRAM_LIMIT,

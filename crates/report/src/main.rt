@@ -7,24 +7,18 @@ use set_report::{report_on, report_text};
 use std::io::Read;
 use std::process::ExitCode;
 
-// Prints the report, and says whether the set can be loaded.
-fn run(rt: &HostRuntime) -> anyhow::Result<bool> {
+fn main(rt: HostRuntime) -> anyhow::Result<ExitCode> {
     let heap = rt.alloc();
     let mut bytes = Vec::new(heap);
     // One byte past the limit is enough to see that a file is too long.
     rt.stdin()
         .take(LIBRARY_LIMIT as u64 + 1)
         .read_to_end(&mut bytes)?;
-    let report = report_on(heap, bytes.as_slice());
-    rt.print(report_text(heap, &report, bytes.as_slice())?)?;
-    Ok(report.fault.is_none())
-}
-
-fn main(rt: HostRuntime) -> anyhow::Result<ExitCode> {
-    if run(&rt)? {
-        Ok(ExitCode::SUCCESS)
-    } else {
-        // The report has said why.
-        Ok(ExitCode::FAILURE)
-    }
+    let report = report_on(heap, &bytes);
+    rt.print(report_text(heap, &report, &bytes)?)?;
+    // The report has said why the set cannot be loaded, so nothing else is printed.
+    Ok(match report.fault {
+        None => ExitCode::SUCCESS,
+        Some(_) => ExitCode::FAILURE,
+    })
 }

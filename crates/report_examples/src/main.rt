@@ -7,19 +7,15 @@ use std::{env, fs};
 fn print_report(rt: &HostRuntime, name: &str) -> anyhow::Result<()> {
     let heap = rt.alloc();
     let bytes = fs::read(rt, name)?;
-    let report = report_on(heap, bytes.as_slice());
+    let report = report_on(heap, &bytes);
     println!(rt; "{name}")?;
-    rt.println(report_text(heap, &report, bytes.as_slice())?)?;
-    Ok(())
-}
-
-fn run(rt: &HostRuntime) -> anyhow::Result<()> {
-    for name in env::args(rt)?.skip(1) {
-        print_report(rt, name.as_str())?;
-    }
+    rt.println(report_text(heap, &report, &bytes)?)?;
     Ok(())
 }
 
 fn main(rt: HostRuntime) -> anyhow::Result<()> {
-    run(&rt)
+    for name in env::args(&rt)?.skip(1) {
+        print_report(&rt, &name)?;
+    }
+    Ok(())
 }

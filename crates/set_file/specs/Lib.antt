@@ -5,5 +5,6 @@ pub mod Lines
 pub mod Refusals
 pub mod Files
 pub mod Places
+pub mod Questions
 pub mod Laws
 pub mod Examples

@@ -7,6 +7,7 @@ mod laws;
 mod line;
 mod locate;
 mod token;
+mod told;
 mod word;
 
 pub use file::{FileFault, LIBRARY_LIMIT, PROGRAM_LIMIT, Refusal, read};

@@ -1,40 +1,17 @@
 -- The box of some points is the smallest that holds them. Assumes nothing.
-use Rattle.std.proofs.Common.{◌≡◌, ℕ, ◌<◌, ◌≤◌, List, [], ◌∷◌, length, get_or, take, ℤ, pos, ◌≤ℤ◌, Some, fold, ap, ◌∙◌, subst, arith}
+use Rattle.std.proofs.Common.{◌≡◌, List, [], ◌∷◌, slice_get, Some, fold, subst, arith}
 use lib.Signed.{≤ℤ_refl}
-use Rattle.std.specs.Int.{int_min, int_max}
 use Rattle.std.specs.List.{AllByRecursion}
-use Rattle.std.proofs.lemmas.List.{take_all}
 use Rattle.std.proofs.lemmas.Int.{ints}
 use Rattle.mesh.specs.declared.Point.{Point}
 use Rattle.set_report.specs.declared.bounds.BoundingBox.{BoundingBox}
 use Rattle.set_report.specs.Bounds.{widened, bounds_of, Below, Holds, Smallest}
 
-min_left : (a b : ℤ) → int_min a b ≤ℤ a
-min_left a b = grind (arith, ints)
-
-min_right : (a b : ℤ) → int_min a b ≤ℤ b
-min_right a b = grind (arith, ints)
-
-max_left : (a b : ℤ) → a ≤ℤ int_max a b
-max_left a b = grind (arith, ints)
-
-max_right : (a b : ℤ) → b ≤ℤ int_max a b
-max_right a b = grind (arith, ints)
-
-min_above : (a b c : ℤ) → c ≤ℤ a → c ≤ℤ b → c ≤ℤ int_min a b
-min_above a b c h k = grind (arith, ints)
-
-max_below : (a b c : ℤ) → a ≤ℤ c → b ≤ℤ c → int_max a b ≤ℤ c
-max_below a b c h k = grind (arith, ints)
-
-chain : (a b c : ℤ) → a ≤ℤ b → b ≤ℤ c → a ≤ℤ c
-chain a b c h k = omega (arith, ints)
-
 below_same : (p : Point) → Below p p
 below_same p = record { x = ≤ℤ_refl p.x; y = ≤ℤ_refl p.y; z = ≤ℤ_refl p.z }
 
 below_chain : (a b c : Point) → Below a b → Below b c → Below a c
-below_chain a b c h k = record { x = chain _ _ _ h.x k.x; y = chain _ _ _ h.y k.y; z = chain _ _ _ h.z k.z }
+below_chain a b c h k = grind arith
 
 -- one box lies within another
 pub record Within (a b : BoundingBox) : Type 0 where
@@ -48,31 +25,14 @@ holds_more : (a b : BoundingBox) (p : Point) → Within a b → Holds a p → Ho
 holds_more a b p w h = record { low = below_chain _ _ _ w.low h.low; high = below_chain _ _ _ h.high w.high }
 
 within_widened : (b : BoundingBox) (p : Point) → Within b (widened b p)
-within_widened b p = record {
-  low = record { x = min_left b.low.x p.x; y = min_left b.low.y p.y; z = min_left b.low.z p.z };
-  high = record { x = max_left b.high.x p.x; y = max_left b.high.y p.y; z = max_left b.high.z p.z };
-}
+within_widened b p = grind (arith, ints)
 
 widened_holds : (b : BoundingBox) (p : Point) → Holds (widened b p) p
-widened_holds b p = record {
-  low = record { x = min_right b.low.x p.x; y = min_right b.low.y p.y; z = min_right b.low.z p.z };
-  high = record { x = max_right b.high.x p.x; y = max_right b.high.y p.y; z = max_right b.high.z p.z };
-}
+widened_holds b p = grind (arith, ints)
 
 -- a box that holds the old one and the new point holds the widened one
 widened_within : (b other : BoundingBox) (p : Point) → Within b other → Holds other p → Within (widened b p) other
-widened_within b other p w h = record {
-  low = record {
-    x = min_above b.low.x p.x other.low.x w.low.x h.low.x;
-    y = min_above b.low.y p.y other.low.y w.low.y h.low.y;
-    z = min_above b.low.z p.z other.low.z w.low.z h.low.z;
-  };
-  high = record {
-    x = max_below b.high.x p.x other.high.x w.high.x h.high.x;
-    y = max_below b.high.y p.y other.high.y w.high.y h.high.y;
-    z = max_below b.high.z p.z other.high.z w.high.z h.high.z;
-  };
-}
+widened_within b other p w h = grind (arith, ints)
 
 within_folded : (b : BoundingBox) (ps : List Point) → Within b (fold widened b ps)
 within_folded b [] = record { low = below_same b.low; high = below_same b.high }
@@ -87,7 +47,7 @@ folded_within b other [] w h = w
 folded_within b other (p ∷ ps) w h = folded_within (widened b p) other ps (widened_within b other p w h.0) h.1
 
 pub smallest : Smallest
-smallest [] b e = let z : ◌≡◌ {A = ℕ} 0 1 = cc in absurd (omega arith)
+smallest [] b e = cc
 smallest (p ∷ ps) b e =
     let start : BoundingBox = record { low = p; high = p } in
     let same : fold widened start (p ∷ ps) ≡ b = cc in (
@@ -97,10 +57,7 @@ smallest (p ∷ ps) b e =
           (w.low, w.high),
     )
 
-abbrev pub origin : Point
-origin = record { x = pos 0; y = pos 0; z = pos 0 }
-
--- the first point's box, grown over all
-pub grown : (ps : List Point) (b : BoundingBox) (i : ℕ) → 0 < length ps → length ps ≤ i → b ≡ fold widened (record { low = get_or ps 0 origin; high = get_or ps 0 origin }) (take i ps) → Some b ≡ bounds_of ps
-grown [] b i h k e = absurd (omega arith)
-grown (p ∷ ps) b i h k e = ap Some (e ∙ ap (fold widened (record { low = p; high = p })) (take_all i (p ∷ ps) k))
+-- the box of the first point, grown over all
+pub grown : (ps : List Point) (p : Point) (b : BoundingBox) → slice_get ps 0 ≡ Some p → b ≡ fold widened (record { low = p; high = p }) ps → Some b ≡ bounds_of ps
+grown [] p b h e = cc
+grown (q ∷ ps) p b h e = cc

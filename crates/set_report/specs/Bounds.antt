@@ -1,15 +1,19 @@
 -- The smallest box that holds some points. Assumes nothing.
-use Rattle.std.specs.Prelude.{◌≡◌, List, [], ◌∷◌, ◌≤ℤ◌, Some, None, fold, Option}
+use Rattle.std.specs.Prelude.{◌≡◌, List, [], ◌∷◌, ℤ, ◌≤ℤ◌, Some, None, fold, Option}
 use Rattle.std.specs.Int.{int_min, int_max}
 use Rattle.std.specs.List.{AllByRecursion}
 use Rattle.mesh.specs.declared.Point.{Point}
 use Rattle.set_report.specs.declared.bounds.BoundingBox.{BoundingBox}
 
+-- the point whose coordinates f makes of those of two points, axis by axis
+abbrev pub by_axis : (ℤ → ℤ → ℤ) → Point → Point → Point
+by_axis f a b = record { x = f a.x b.x; y = f a.y b.y; z = f a.z b.z }
+
 abbrev pub lowest : Point → Point → Point
-lowest a b = record { x = int_min a.x b.x; y = int_min a.y b.y; z = int_min a.z b.z }
+lowest = by_axis int_min
 
 abbrev pub highest : Point → Point → Point
-highest a b = record { x = int_max a.x b.x; y = int_max a.y b.y; z = int_max a.z b.z }
+highest = by_axis int_max
 
 -- a box with one point more
 abbrev pub widened : BoundingBox → Point → BoundingBox

@@ -1,15 +1,12 @@
 -- The text of a report, line by line. Assumes nothing.
 use Rattle.std.specs.Prelude.{ℕ, List, [], ◌++◌, ℤ, Some, None, codes, decimal, Option}
 use Rattle.std.specs.Fmt.{signed_decimal}
-use Rattle.set_file.specs.declared.word.WordFault.{WordFault}
-use Rattle.set_file.specs.declared.word.WordFault.TheVariants.{Form, Range}
-use Rattle.set_file.specs.declared.line.LineFault.{LineFault}
-use Rattle.set_file.specs.declared.line.LineFault.TheVariants.{First, Count, Word, Same, Full, Memory}
 use Rattle.set_file.specs.declared.file.FileFault.{FileFault}
 use Rattle.set_file.specs.declared.file.FileFault.TheVariants.{Size, Line}
 use Rattle.set_file.specs.declared.file.Refusal.{Refusal}
 use Rattle.set_file.specs.Refusals.{refusal_of}
 use Rattle.set_file.specs.Places.{word_at}
+use Rattle.set_file.specs.Questions.{line_question, refusal_text}
 use Rattle.set_report.specs.declared.bounds.BoundingBox.{BoundingBox}
 use Rattle.set_report.specs.declared.report.Report.{Report}
 use Rattle.set_report.specs.Shown.{shown_of}
@@ -21,27 +18,15 @@ counts_text points triangles = codes "points: " ++ (decimal points ++ (codes "\n
 abbrev pub side_text : List ℕ → ℤ → ℤ → List ℕ
 side_text axis low high = axis ++ (codes " " ++ (signed_decimal low ++ (codes " to " ++ signed_decimal high)))
 
-abbrev pub sides_text : BoundingBox → List ℕ
-sides_text b =
-    codes "box: " ++ (side_text (codes "x") b.low.x b.high.x
-    ++ (codes ", " ++ (side_text (codes "y") b.low.y b.high.y
-    ++ (codes ", " ++ (side_text (codes "z") b.low.z b.high.z ++ codes "\n")))))
+-- the three sides
+abbrev pub box_text : BoundingBox → List ℕ
+box_text b =
+    side_text (codes "x") b.low.x b.high.x ++ (codes ", "
+    ++ (side_text (codes "y") b.low.y b.high.y ++ (codes ", " ++ side_text (codes "z") b.low.z b.high.z)))
 
 abbrev pub bounds_text : Option BoundingBox → List ℕ
 bounds_text None = codes "box: none\n"
-bounds_text (Some b) = sides_text b
-
-abbrev pub word_question : WordFault → List ℕ
-word_question (Form at) = codes "is the word a number of one to five digits, with or without a minus?"
-word_question (Range at) = codes "is the number in range: after `v` from -10000 to 10000, after `f` an earlier point?"
-
-abbrev pub line_question : LineFault → List ℕ
-line_question (First n) = codes "is the first word `v` or `f`?"
-line_question (Count n) = codes "are there exactly three words after the first?"
-line_question (Word f) = word_question f
-line_question (Same n) = codes "do the corners name three different points?"
-line_question (Full n) = codes "does the list hold fewer than 65536 entries?"
-line_question (Memory n) = codes "is there memory for one more entry?"
+bounds_text (Some b) = codes "box: " ++ (box_text b ++ codes "\n")
 
 abbrev pub file_question : FileFault → List ℕ
 file_question Size = codes "is the file at most 1048576 bytes long?"
@@ -49,7 +34,7 @@ file_question (Line f) = line_question f
 
 abbrev pub heading_text : Option Refusal → List ℕ
 heading_text None = codes "out of memory\n"
-heading_text (Some r) = codes "refused " ++ (decimal r.number ++ (codes " line " ++ (decimal r.at.line ++ (codes " word " ++ (decimal r.at.word ++ codes "\n")))))
+heading_text (Some r) = refusal_text r ++ codes "\n"
 
 -- the word that a refusal names, if it names one
 abbrev pub named_word : List ℕ → Option Refusal → Option (List ℕ)

@@ -17,42 +17,18 @@ pub struct Joints {
 }
 
 // The twin list of triangles that keep the rules of a mesh.
+#[tactic(auto, unfolding(mesh::specs::Stored::lists_fit))]
 fn twins_of(heap: Global, points: &[Point], triangles: &[Triangle]) -> Result<Vec<u32>, AllocError>
     requires { set_fits points.now triangles.now ≡ true }
     ensures { IfOk result (λ v. v.items ≡ pairing triangles.now) }
 {
     let mut twins = vec![in heap; NO_TWIN; 3 * triangles.len()]?;
-    match pair(points, triangles, twins.as_mut_slice()) {
-        Ok(()) => Ok(twins),
-        Err(_) => unreachable(),
-    }
-}
-
-// Counts over the stored mesh of lists that keep all rules, with a mark for each point.
-fn count<'a>(
-    points: &'a [Point],
-    triangles: &'a [Triangle],
-    twins: &'a [u32],
-    marks: &mut [bool],
-) -> Joints
-    requires lists { stored_fits points.now triangles.now twins.now ≡ true }
-    requires marks { length marks.old ≡ length points.now }
-    ensures { result ≡ counts_of (stored points.now triangles.now twins.now) }
-{
-    let mut mesh = StoredMesh::empty();
-    match mesh.fill(points, triangles, twins) {
-        Ok(()) => {
-            let edges = count_edges(&mesh);
-            match count_unused(&mesh, marks) {
-                Some(unused) => Joints { edges, unused },
-                None => unreachable(),
-            }
-        }
-        Err(_) => unreachable(),
-    }
+    pair(points, triangles, &mut twins).unwrap();
+    Ok(twins)
 }
 
 // Pairs a set that keeps the rules of places and corners, and counts. It finds memory, or gives up.
+#[tactic(auto, using(mesh::proofs::PairedRules::pairs_stand), unfolding(crate::specs::Joints::joints_of))]
 pub(crate) fn joints_of(
     heap: Global,
     points: &[Point],
@@ -63,7 +39,13 @@ pub(crate) fn joints_of(
 {
     let twins = twins_of(heap, points, triangles)?;
     let mut marks = vec![in heap; false; points.len()]?;
-    Ok(count(points, triangles, twins.as_slice(), marks.as_mut_slice()))
+    let mut mesh = StoredMesh::empty();
+    mesh.fill(points, triangles, &twins).unwrap();
+    let unused = count_unused(&mesh, &mut marks).unwrap();
+    Ok(Joints {
+        edges: count_edges(&mesh),
+        unused,
+    })
 }
 
 #[cfg(test)]

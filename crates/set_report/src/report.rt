@@ -24,7 +24,7 @@ pub fn report_on(heap: Global, bytes: &[u8]) -> Report
     Report {
         points: points.len(),
         triangles: triangles.len(),
-        bounds: bounding_box(points.as_slice()),
+        bounds: bounding_box(&points),
         fault,
     }
 }

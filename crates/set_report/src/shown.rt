@@ -1,73 +1,67 @@
 // A word of a file as text: a file may hold any bytes, and a terminal should not.
-ghost use Rattle.std.specs.Prelude.{◌≡◌, ℕ, ◌<◌, [], ◌∷◌, ◌++◌, IfOk, string_bytes, OnOk};
-ghost use Rattle.set_report.specs.Shown.{hex_digit, escaped, shown_byte, shown_bytes, shown_of};
+ghost use Rattle.std.specs.Prelude.{◌≡◌, IfOk, string_bytes, Some};
+ghost use Rattle.set_report.specs.Shown.{shown_byte, shown_bytes, shown_of};
 
 use std::alloc::{AllocError, Global};
+use std::fmt;
 
 // How many bytes of a word are shown.
 const SHOWN_BYTES: usize = 40;
 
-fn hex_digit(n: u8) -> char
-    requires { n < 16 }
-    ensures value { result ≡ hex_digit n }
-    ensures ascii { result < 128 }
-{
-    if n < 10 {
-        char::from(b'0' + n)
-    } else {
-        char::from(b'a' + (n - 10))
+// A byte as itself or, where it is no visible ASCII character, as `\x` and two digits.
+#[derive(Clone, Copy)]
+struct ShownByte(u8);
+
+impl fmt::Display for ShownByte {
+    ghost output = { λ b. Some (shown_byte b.0) };
+
+    #[tactic(auto, using(std::proofs::lemmas::Fmt::hex_byte))]
+    fn fmt<W: fmt::Write>(&self, f: &mut fmt::Formatter<W>) -> fmt::Result {
+        let b = self.0;
+        if b.is_ascii_graphic() && b != b'\\' {
+            f.write_char(char::from(b))
+        } else {
+            write!(f, "\\x{b:02x}")
+        }
     }
 }
 
-fn push_ascii(text: &mut String, c: char) -> Result<(), AllocError>
-    requires { c < 128 }
-    ensures { OnOk result (string_bytes text.new ≡ string_bytes text.old ++ c ∷ []) }
-{
-    text.push(c)?;
-    Ok(())
-}
+// All of some bytes.
+#[derive(Clone, Copy)]
+struct ShownBytes<'a>(&'a [u8]);
 
-// Appends a byte as `\x` and two digits.
-fn push_escape(text: &mut String, b: u8) -> Result<(), AllocError>
-    ensures { OnOk result (string_bytes text.new ≡ string_bytes text.old ++ escaped b) }
-{
-    push_ascii(text, '\\')?;
-    push_ascii(text, 'x')?;
-    push_ascii(text, hex_digit(b / 16))?;
-    push_ascii(text, hex_digit(b % 16))?;
-    Ok(())
-}
+impl fmt::Display for ShownBytes<'_> {
+    ghost output = { λ bytes. Some (shown_bytes bytes.0.now) };
 
-// Appends a byte as itself or, where it is no visible ASCII character, as an escape.
-fn push_byte(text: &mut String, b: u8) -> Result<(), AllocError>
-    ensures { OnOk result (string_bytes text.new ≡ string_bytes text.old ++ shown_byte b) }
-{
-    if b'!' <= b && b <= b'~' && b != b'\\' {
-        push_ascii(text, char::from(b))
-    } else {
-        push_escape(text, b)
+    fn fmt<W: fmt::Write>(&self, f: &mut fmt::Formatter<W>) -> fmt::Result {
+        for &b in self.0 {
+            write!(f, "{}", ShownByte(b))?;
+        }
+        Ok(())
     }
-}
-
-fn push_bytes(text: &mut String, bytes: &[u8]) -> Result<(), AllocError>
-    ensures { OnOk result (string_bytes text.new ≡ string_bytes text.old ++ shown_bytes bytes.now) }
-{
-    for &b in bytes {
-        push_byte(text, b)?;
-    }
-    Ok(())
 }
 
 // The first bytes of a word, and three dots where there are more.
+#[derive(Clone, Copy)]
+pub(crate) struct Shown<'a>(pub(crate) &'a [u8]);
+
+impl fmt::Display for Shown<'_> {
+    ghost output = { λ word. Some (shown_of word.0.now) };
+
+    fn fmt<W: fmt::Write>(&self, f: &mut fmt::Formatter<W>) -> fmt::Result {
+        let word = self.0;
+        if word.len() <= SHOWN_BYTES {
+            write!(f, "{}", ShownBytes(word))
+        } else {
+            let (head, _) = word.split_at(SHOWN_BYTES);
+            write!(f, "{}...", ShownBytes(head))
+        }
+    }
+}
+
+// The word as visible text.
 pub fn shown_word(heap: Global, word: &[u8]) -> Result<String, AllocError>
     ensures { IfOk result (λ t. string_bytes t ≡ shown_of word.now) }
 {
-    let mut text = String::new(heap);
-    if word.len() <= SHOWN_BYTES {
-        push_bytes(&mut text, word)?;
-        return Ok(text);
-    }
-    push_bytes(&mut text, &word[0..SHOWN_BYTES])?;
-    text.push_str("...")?;
-    Ok(text)
+    Shown(word).to_string(heap)
 }
