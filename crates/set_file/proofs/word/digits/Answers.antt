@@ -4,17 +4,17 @@ use Rattle.set_file.specs.Numbers.{after}
 use Rattle.set_file.proofs.Numbers.{sized, after_digit, after_other, ten_pow}
 use Rattle.set_file.proofs.word.digits.Goals as goal
 
-pub returns-then-b-lt48 : goal.returns-then-b-lt48
-returns-then-b-lt48 c =
+pub returns-then-not-is_ascii_digit : goal.returns-then-not-is_ascii_digit
+returns-then-not-is_ascii_digit c =
     record {
-      value = sym (sized c.args.ds.now (omega (arith, false-eqb _ 0 c.if-is_empty.ensures)) (omega arith) ∙ sym c.loop-b.invariant.0 ∙ at_drop_more (after c.loop-b.n) c.args.ds.now c.loop-b.b-index 0 c.loop-b-test.true ∙ after_other c.loop-b.n (get_or c.args.ds.now c.loop-b.b-index 0) (drop (c.loop-b.b-index + 1) c.args.ds.now) c.then-b-lt48.either);
+      value = sym (sized c.args.ds.now (omega (arith, false-eqb _ 0 c.if-is_empty.ensures)) (omega arith) ∙ sym c.loop-b.invariant.0 ∙ at_drop_more (after c.loop-b.n) c.args.ds.now c.loop-b.b-index 0 c.loop-b-test.true ∙ after_other c.loop-b.n (get_or c.args.ds.now c.loop-b.b-index 0) (drop (c.loop-b.b-index + 1) c.args.ds.now) c.if-not-is_ascii_digit.ensures.value);
       small = tt;
     }
 
 pub loop-b-preserved : goal.loop-b-preserved
 loop-b-preserved c = (
-  ap (λ m. after (c.loop-b.n * 10 + m) (drop (c.loop-b.b-index + 1) c.args.ds.now)) c.from.ensures ∙ sym (after_digit c.loop-b.n (get_or c.args.ds.now c.loop-b.b-index 0) (drop (c.loop-b.b-index + 1) c.args.ds.now) (omega arith) (omega arith)) ∙ sym (at_drop_more (after c.loop-b.n) c.args.ds.now c.loop-b.b-index 0 c.loop-b-test.true) ∙ c.loop-b.invariant.0,
-  rw add-one (omega arith),
+  ap (λ m. after (c.loop-b.n * 10 + m) (drop (c.loop-b.b-index + 1) c.args.ds.now)) c.from.ensures ∙ sym (after_digit c.loop-b.n (get_or c.args.ds.now c.loop-b.b-index 0) (drop (c.loop-b.b-index + 1) c.args.ds.now) c.if-not-is_ascii_digit.ensures.value) ∙ sym (at_drop_more (after c.loop-b.n) c.args.ds.now c.loop-b.b-index 0 c.loop-b-test.true) ∙ c.loop-b.invariant.0,
+  rw add-one (omega (arith, c.if-not-is_ascii_digit.ensures.cases)),
 )
 
 pub returns : goal.returns
