@@ -1,7 +1,8 @@
 -- Lists that keep the limits and the rules of places and corners still do after a reading. Assumes nothing.
-use Rattle.std.proofs.Common.{◌≡◌, ℕ, ◌+◌, ◌-◌, ◌<◌, Bool, true, false, not, ◌&&◌, ◌||◌, eqb, ltb, leb, cond, List, [], ◌∷◌, ◌++◌, length, get_or, ℤ, pos, negsuc, Some, None, Ok, Err, Option, Result, sym, refl, ap, ◌∙◌, subst, ⊎_elim, arith}
+use Rattle.std.proofs.Common.{IfOk, ◌≡◌, ℕ, ◌+◌, ◌-◌, ◌<◌, Bool, true, false, not, ◌&&◌, ◌||◌, eqb, ltb, leb, List, [], ◌∷◌, ◌++◌, length, get_or, ℤ, pos, negsuc, Some, None, Ok, Err, Option, Result, sym, ap, ◌∙◌, ⊎_elim, arith}
 use Rattle.std.proofs.lemmas.List.{length_push}
-use Rattle.std.proofs.lemmas.Bool.{and_parts, and_from, or_parts, not_from_false, ltb-true, lt-ltb, leb-true, le-leb}
+use Rattle.std.proofs.lemmas.Result.{IfOk-at_ok}
+use Rattle.std.proofs.lemmas.Bool.{cond_both, false≢true, and_parts, and_from, or_parts, not_from_false, ltb-true, lt-ltb, leb-true, le-leb}
 use Rattle.mesh.specs.declared.Triangle.{Triangle}
 use Rattle.std.specs.List.{list_all}
 use Rattle.mesh.specs.Model.{in_limits}
@@ -17,54 +18,38 @@ use Rattle.set_file.specs.declared.line.LineFault.{LineFault}
 use Rattle.set_file.specs.Parts.{words}
 use Rattle.set_file.specs.Numbers.{number_of, converted, passing, earlier, from_zero}
 use Rattle.set_file.specs.Tokens.{is_comment}
-use Rattle.set_file.specs.Lines.{Trio, three_of, and_then, place, triple, made, point_of, triangle_of, vertex_of, face_of, keyed_of, entered, by_words}
+use Rattle.set_file.specs.Lines.{Trio, three_of, and_then, place, triple, made, vertex_of, face_of, keyed_of, entered, by_words}
 use Rattle.set_file.specs.declared.file.FileFault.{FileFault}
 use Rattle.set_file.specs.Files.{Lists, Reading, Reads, with_entry}
 use Rattle.set_file.specs.Laws.{Lead, FitsKept}
-use Rattle.set_file.proofs.Blame.{by_test}
 use Rattle.set_file.proofs.Meaning.{line_by_line}
 
--- a fault is no good answer
-not_err : {T E : Type 0} {A : Type 0} (e : E) (x : T) → ◌≡◌ {A = Result T E} (Err e) (Ok x) → A
-not_err e x p = let z : ◌≡◌ {A = ℕ} 0 1 = cc in absurd (omega arith)
+then_good : {T U : Type 0} (r : Result T WordFault) (k : T → Result U LineFault) (P : T → Type 0) (Q : U → Type 0) → IfOk r P → ((x : T) → P x → IfOk (k x) Q) → IfOk (and_then r k) Q
+then_good (Ok x) k P Q h g = g x h
+then_good (Err e) k P Q h g = tt
 
--- what is good came from a good word
-by_good : {T U A : Type 0} (r : Result T WordFault) (k : T → Result U LineFault) (u : U) → and_then r k ≡ Ok u → ((x : T) → r ≡ Ok x → k x ≡ Ok u → A) → A
-by_good (Ok x) k u h f = f x refl h
-by_good (Err e) k u h f = not_err _ u h
+made_good : {T : Type 0} (r : Result T LineFault) (k : T → Result Entry LineFault) (P : T → Type 0) (Q : Entry → Type 0) → IfOk r P → ((x : T) → P x → IfOk (k x) Q) → IfOk (made r k) Q
+made_good (Ok x) k P Q h g = g x h
+made_good (Err f) k P Q h g = tt
 
--- what is made is made of something good
-by_made : {T A : Type 0} (r : Result T LineFault) (k : T → Result Entry LineFault) (e : Entry) → made r k ≡ Ok e → ((x : T) → r ≡ Ok x → k x ≡ Ok e → A) → A
-by_made (Ok x) k e h f = f x refl h
-by_made (Err d) k e h f = not_err _ e h
-
--- what a good word gives comes of a number that passes the test
+-- what good words give comes of numbers that pass the test
 module _ {T : Type 0} (test : ℤ → Bool) (value : ℤ → T) (P : T → Type 0) (each : (v : ℤ) → test v ≡ true → P (value v)) where
-  passed : (v : ℤ) (b : Bool) → test v ≡ b → (at : Place) (x : T) → ok_or (cond b (Some (value v)) None) (Range at) ≡ Ok x → P x
-  passed v true t at x h = let same : value v ≡ x = cc in subst P same (each v t)
-  passed v false t at x h = not_err _ x h
+  word_good : (o : Option ℤ) (at : Place) → IfOk (converted (passing test value) o at) P
+  word_good None at = tt
+  word_good (Some v) at = cond_both (test v) (Some (value v)) None (λ (o : Option T). IfOk (ok_or o (Range at)) P) (each v) (λ _. tt)
 
-  good_word : (o : Option ℤ) (at : Place) (x : T) → converted (passing test value) o at ≡ Ok x → P x
-  good_word None at x h = not_err _ x h
-  good_word (Some v) at x h = passed v (test v) refl at x h
-
-  abbrev reads : List ℕ → Place → Result T WordFault
-  reads word at = converted (passing test value) (number_of word) at
-
-  good_three : (n : ℕ) (o : Option Trio) (t : T × T × T) → triple reads n o ≡ Ok t → P t.0 × P t.1 × P t.2
-  good_three n None t h = not_err _ t h
-  good_three n (Some w) t h =
-      by_good (reads w.0 (place n 2)) _ t h (λ x p h₁.
-      by_good (reads w.1 (place n 3)) _ t h₁ (λ y q h₂.
-      by_good (reads w.2 (place n 4)) _ t h₂ (λ z r h₃.
-      let same : (x, y, z) ≡ t = cc in
-      subst (λ (u : T × T × T). P u.0 × P u.1 × P u.2) same (good_word (number_of w.0) (place n 2) x p, good_word (number_of w.1) (place n 3) y q, good_word (number_of w.2) (place n 4) z r))))
+  three_good : (n : ℕ) (o : Option Trio) → IfOk (triple (λ word at. converted (passing test value) (number_of word) at) n o) (λ t. P t.0 × P t.1 × P t.2)
+  three_good n None = tt
+  three_good n (Some w) =
+      then_good _ _ P _ (word_good (number_of w.0) (place n 2)) (λ x p.
+      then_good _ _ P _ (word_good (number_of w.1) (place n 3)) (λ y q.
+      then_good _ _ P _ (word_good (number_of w.2) (place n 4)) (λ z r. (p, q, r))))
 
 below : (points : ℕ) (v : ℤ) → earlier points v ≡ true → ltb (from_zero v) points ≡ true
 below points (pos n) e =
     let (a, b) = and_parts (leb 1 n) (leb n points) e in
     lt-ltb (n - 1) points (let p = leb-true 1 n a in let q = leb-true n points b in omega arith)
-below points (negsuc n) e = let z : ◌≡◌ {A = ℕ} 0 1 = cc in absurd (omega arith)
+below points (negsuc n) e = absurd (false≢true e)
 
 -- what an entry keeps, after so many points and triangles
 abbrev Good : ℕ → ℕ → Option Entry → Type 0
@@ -73,64 +58,46 @@ Good points triangles (Some (Vertex p)) = (near p ≡ true) × (points < 65536)
 Good points triangles (Some (Face t)) = (sound points t ≡ true) × (triangles < 65536)
 
 module _ (n points triangles : ℕ) where
-  module _ (e : Entry) where
-    abbrev So : Type 0
-    So = Good points triangles (Some e)
+  -- the entry, if there is one, keeps it
+  abbrev Keeps : Result Entry LineFault → Type 0
+  Keeps r = IfOk r (λ e. Good points triangles (Some e))
 
-    point_good : (t : ℤ × ℤ × ℤ) → (in_limits t.0 ≡ true) × (in_limits t.1 ≡ true) × (in_limits t.2 ≡ true) → point_of n points t ≡ Ok e → So
-    point_good t g h =
-        by_test (ltb points 65536) (Ok (Vertex (record { x = t.0; y = t.1; z = t.2 }))) _ (Ok e) h
-        (λ f m.
-        let same : Vertex (record { x = t.0; y = t.1; z = t.2 }) ≡ e = cc in
-        subst (λ d. Good points triangles (Some d)) same (
-          and_from (in_limits t.0) (in_limits t.1 && in_limits t.2) g.0 (and_from (in_limits t.1) (in_limits t.2) g.1 g.2),
-          ltb-true points 65536 f,
-        ))
-        (λ f m. not_err _ e m)
+  vertex_good : (ws : List (List ℕ)) → Keeps (vertex_of ws n points)
+  vertex_good ws =
+      made_good _ _ (λ t. (in_limits t.0 ≡ true) × (in_limits t.1 ≡ true) × (in_limits t.2 ≡ true)) _ (three_good in_limits (λ v. v) (λ v. in_limits v ≡ true) (λ v t. t) n (three_of ws)) (λ t g.
+      cond_both (ltb points 65536) _ _ Keeps
+      (λ f. (and_from (in_limits t.0) (in_limits t.1 && in_limits t.2) g.0 (and_from (in_limits t.1) (in_limits t.2) g.1 g.2), ltb-true points 65536 f))
+      (λ _. tt))
 
-    triangle_good : (t : ℕ × ℕ × ℕ) → (ltb t.0 points ≡ true) × (ltb t.1 points ≡ true) × (ltb t.2 points ≡ true) → triangle_of n triangles t ≡ Ok e → So
-    triangle_good t g h =
-        let a = t.0 in
-        let b = t.1 in
-        let c = t.2 in
-        by_test (eqb a b || (eqb b c || eqb c a)) _ _ (Ok e) h (λ d m. not_err _ e m) (λ d h₁.
-        by_test (ltb triangles 65536) (Ok (Face (record { a = a; b = b; c = c }))) _ (Ok e) h₁
-        (λ f m.
-        let same : Face (record { a = a; b = b; c = c }) ≡ e = cc in
-        let (u, d₁) = or_parts (eqb a b) (eqb b c || eqb c a) d in
-        let (v, w) = or_parts (eqb b c) (eqb c a) d₁ in
-        subst (λ d. Good points triangles (Some d)) same (
-          and_from (ltb a points && (ltb b points && ltb c points)) (not (eqb a b) && (not (eqb b c) && not (eqb c a)))
-              (and_from (ltb a points) (ltb b points && ltb c points) g.0 (and_from (ltb b points) (ltb c points) g.1 g.2))
-              (and_from (not (eqb a b)) (not (eqb b c) && not (eqb c a)) (not_from_false (eqb a b) u)
-              (and_from (not (eqb b c)) (not (eqb c a)) (not_from_false (eqb b c) v) (not_from_false (eqb c a) w))),
-          ltb-true triangles 65536 f,
-        ))
-        (λ f m. not_err _ e m))
+  -- three earlier points, no two of them the same
+  corners_sound : (a b c : ℕ) → (ltb a points ≡ true) × (ltb b points ≡ true) × (ltb c points ≡ true) → (eqb a b || (eqb b c || eqb c a)) ≡ false → sound points (record { a = a; b = b; c = c }) ≡ true
+  corners_sound a b c g d =
+      let (u, d₁) = or_parts (eqb a b) (eqb b c || eqb c a) d in
+      let (v, w) = or_parts (eqb b c) (eqb c a) d₁ in
+      and_from (ltb a points && (ltb b points && ltb c points)) (not (eqb a b) && (not (eqb b c) && not (eqb c a)))
+          (and_from (ltb a points) (ltb b points && ltb c points) g.0 (and_from (ltb b points) (ltb c points) g.1 g.2))
+          (and_from (not (eqb a b)) (not (eqb b c) && not (eqb c a)) (not_from_false (eqb a b) u)
+          (and_from (not (eqb b c)) (not (eqb c a)) (not_from_false (eqb b c) v) (not_from_false (eqb c a) w)))
 
-    vertex_good : (ws : List (List ℕ)) → vertex_of ws n points ≡ Ok e → So
-    vertex_good ws h = by_made _ _ e h (λ t p m. point_good t (good_three in_limits (λ v. v) (λ v. in_limits v ≡ true) (λ v t. t) n (three_of ws) t p) m)
+  face_good : (ws : List (List ℕ)) → Keeps (face_of ws n points triangles)
+  face_good ws =
+      made_good _ _ (λ t. (ltb t.0 points ≡ true) × (ltb t.1 points ≡ true) × (ltb t.2 points ≡ true)) _ (three_good (earlier points) from_zero (λ c. ltb c points ≡ true) (below points) n (three_of ws)) (λ t g.
+      cond_both (eqb t.0 t.1 || (eqb t.1 t.2 || eqb t.2 t.0)) _ _ Keeps (λ _. tt) (λ d.
+      cond_both (ltb triangles 65536) _ _ Keeps (λ f. (corners_sound t.0 t.1 t.2 g d, ltb-true triangles 65536 f)) (λ _. tt)))
 
-    face_good : (ws : List (List ℕ)) → face_of ws n points triangles ≡ Ok e → So
-    face_good ws h = by_made _ _ e h (λ t p m. triangle_good t (good_three (earlier points) from_zero (λ c. ltb c points ≡ true) (below points) n (three_of ws) t p) m)
+  key_good : (w : List ℕ) (ws : List (List ℕ)) → Keeps (keyed_of w ws n points triangles)
+  key_good w ws =
+      cond_both (eqb (length w) 1) _ _ Keeps
+      (λ _. cond_both (eqb (get_or w 0 0) 118) _ _ Keeps (λ _. vertex_good ws) (λ _. cond_both (eqb (get_or w 0 0) 102) _ _ Keeps (λ _. face_good ws) (λ _. tt)))
+      (λ _. tt)
 
-    key_good : (w : List ℕ) (ws : List (List ℕ)) → keyed_of w ws n points triangles ≡ Ok e → So
-    key_good w ws h =
-        by_test (eqb (length w) 1) _ _ (Ok e) h
-        (λ t p. by_test (eqb (get_or w 0 0) 118) _ _ (Ok e) p (λ u q. vertex_good ws q)
-        (λ u q. by_test (eqb (get_or w 0 0) 102) _ _ (Ok e) q (λ v r. face_good ws r) (λ v r. not_err _ e r)))
-        (λ t p. not_err _ e p)
+  entered_good : (r : Result Entry LineFault) → Keeps r → IfOk (entered r) (Good points triangles)
+  entered_good (Ok e) h = h
+  entered_good (Err f) h = tt
 
-  none_good : (e : Option Entry) → ◌≡◌ {A = Result (Option Entry) LineFault} (Ok None) (Ok e) → Good points triangles e
-  none_good e h = let same : ◌≡◌ {A = Option Entry} None e = cc in subst (Good points triangles) same tt
-
-  entered_good : (r : Result Entry LineFault) (e : Option Entry) → entered r ≡ Ok e → ((d : Entry) → r ≡ Ok d → Good points triangles (Some d)) → Good points triangles e
-  entered_good (Ok d) e h k = let same : Some d ≡ e = cc in subst (Good points triangles) same (k d refl)
-  entered_good (Err f) e h k = not_err _ e h
-
-  words_good : (ws : List (List ℕ)) (e : Option Entry) → by_words ws n points triangles ≡ Ok e → Good points triangles e
-  words_good [] e h = none_good e h
-  words_good (w ∷ ws) e h = by_test (is_comment w) _ _ (Ok e) h (λ t p. none_good e p) (λ t p. entered_good _ e p (λ d q. key_good d w ws q))
+  words_good : (ws : List (List ℕ)) → IfOk (by_words ws n points triangles) (Good points triangles)
+  words_good [] = tt
+  words_good (w ∷ ws) = cond_both (is_comment w) _ _ (λ r. IfOk r (Good points triangles)) (λ _. tt) (λ _. entered_good _ (key_good w ws))
 
 abbrev pub Fit : Lists → Type 0
 Fit s = set_fits s.points s.triangles ≡ true
@@ -174,7 +141,7 @@ led_fits : (ls : List (List ℕ)) (n : ℕ) (s t : Lists) → Lead ls n s t → 
 led_fits [] n s t p f = ap (λ (x : Lists). set_fits x.points x.triangles) p ∙ f
 led_fits (l ∷ ls) n s t p f =
     led_fits ls (n + 1) (with_entry p.0 s) t p.2
-    (entry_fits p.0 s (words_good n (length s.points) (length s.triangles) (words l) p.0 p.1) f)
+    (entry_fits p.0 s (IfOk-at_ok (Good (length s.points) (length s.triangles)) p.1 (words_good n (length s.points) (length s.triangles) (words l))) f)
 
 pub fits_kept : FitsKept
 fits_kept m limit bytes s f =

@@ -1,5 +1,6 @@
 -- The laws of a reading: how it ends, line by line, and what it keeps. Assumes nothing.
 use Rattle.std.proofs.Common.{◌≡◌, ℕ, zero, suc, ◌+◌, ◌<◌, ◌⊎◌, List, [], ◌∷◌, ◌++◌, length, Some, None, Ok, Err, Option, Result, sym, refl, ap, ◌∙◌, subst, inl, inr, ⊎_elim, append_assoc, append-nil, add-zero, arith}
+use Rattle.std.proofs.lemmas.Option.{none-some}
 use Rattle.std.proofs.lemmas.Bool.{cond-false, cases_lt, lt-leb}
 use Rattle.mesh.specs.declared.Point.{Point}
 use Rattle.mesh.specs.declared.Triangle.{Triangle}
@@ -9,23 +10,19 @@ use Rattle.set_file.specs.declared.line.LineFault.{LineFault}
 use Rattle.set_file.specs.declared.line.LineFault.TheVariants.{Memory}
 use Rattle.set_file.specs.declared.file.FileFault.TheVariants.{Size, Line}
 use Rattle.set_file.specs.Parts.{lines}
-use Rattle.set_file.specs.Files.{Lists, Reading, MemoryFor, all, only, spend, with_entry, entry_at, stopped, read_lines, reading}
+use Rattle.set_file.specs.Files.{Lists, Reading, MemoryFor, all, only, spend, with_entry, entry_at, stopped, or_short, enter, read_lines, reading}
 use Rattle.set_file.specs.Laws.{Lead, Done, Refused, Short, LineByLine, GoodFiles, Extends, Kept}
-use Rattle.set_file.proofs.Readings.{spend_all, next_line, no_memory, bad_line, in_limit}
+use Rattle.set_file.proofs.Readings.{spend_all, next_line, in_limit}
 
 abbrev Ending : MemoryFor → List (List ℕ) → ℕ → Lists → Reading → Type 0
 Ending m ls n s r = Done ls n s r ⊎ (Refused ls n s r ⊎ Short m ls n s r)
 
--- some memory is not none
-not_none : {T A : Type 0} (x : T) → ◌≡◌ {A = Option T} (Some x) None → A
-not_none x p = let z : ◌≡◌ {A = ℕ} 0 1 = cc in absurd (omega arith)
-
 -- only the last of a limited memory is nothing
 spent : (e : Option Entry) (m : MemoryFor) → spend e m ≡ None → m ≡ only 0
-spent None m p = not_none m p
-spent (Some e) all p = not_none all p
+spent None m p = absurd (none-some m (sym p))
+spent (Some e) all p = absurd (none-some all (sym p))
 spent (Some e) (only zero) p = refl
-spent (Some e) (only (suc k)) p = not_none (only k) p
+spent (Some e) (only (suc k)) p = absurd (none-some (only k) (sym p))
 
 -- a memory that leaves a limited one is limited
 spent_limited : (e : Option Entry) (m : MemoryFor) (k : ℕ) → spend e m ≡ Some (only k) → (j : ℕ) × (m ≡ only j)
@@ -106,13 +103,17 @@ module _ (m : MemoryFor) (l : List ℕ) (ls : List (List ℕ)) (n : ℕ) (s : Li
     answer = ap (λ i. Err (Line (Memory i))) (sym (add-zero n));
   }))
 
-  by_memory : (e : Option Entry) → entry_at l n s ≡ Ok e → ((k : MemoryFor) → Ending k ls (n + 1) (with_entry e s) (read_lines k ls (n + 1) (with_entry e s))) → (o : Option MemoryFor) → spend e m ≡ o → Here (read_lines m (l ∷ ls) n s)
-  by_memory e h later None p = subst Here (sym (no_memory m l ls n s e h p)) (short_here e h p)
-  by_memory e h later (Some k) p = subst Here (sym (next_line m l ls n s k e h p)) (ending_more m k l ls n s e h p _ (later k))
+  -- what comes after the line
+  abbrev later : Lists → MemoryFor → Reading
+  later t k = read_lines k ls (n + 1) t
 
-  by_entry : ((e : Option Entry) (k : MemoryFor) → Ending k ls (n + 1) (with_entry e s) (read_lines k ls (n + 1) (with_entry e s))) → (o : Result (Option Entry) LineFault) → entry_at l n s ≡ o → Here (read_lines m (l ∷ ls) n s)
-  by_entry later (Ok e) h = by_memory e h (later e) (spend e m) refl
-  by_entry later (Err f) h = subst Here (sym (bad_line m l ls n s f h)) (refused_here f h)
+  by_memory : (e : Option Entry) → entry_at l n s ≡ Ok e → ((k : MemoryFor) → Ending k ls (n + 1) (with_entry e s) (later (with_entry e s) k)) → (o : Option MemoryFor) → spend e m ≡ o → Here (or_short o n s (later (with_entry e s)))
+  by_memory e h ends None p = short_here e h p
+  by_memory e h ends (Some k) p = ending_more m k l ls n s e h p _ (ends k)
+
+  by_entry : ((e : Option Entry) (k : MemoryFor) → Ending k ls (n + 1) (with_entry e s) (later (with_entry e s) k)) → (o : Result (Option Entry) LineFault) → entry_at l n s ≡ o → Here (enter o m n s later)
+  by_entry ends (Ok e) h = by_memory e h (ends e) (spend e m) refl
+  by_entry ends (Err f) h = refused_here f h
 
 ended : (m : MemoryFor) (ls : List (List ℕ)) (n : ℕ) (s : Lists) → Ending m ls n s (read_lines m ls n s)
 ended m [] n s = inl (record { led = refl; answer = refl })
