@@ -75,9 +75,9 @@ module _ (n points triangles : ℕ) where
       let (u, d₁) = or_parts (eqb a b) (eqb b c || eqb c a) d in
       let (v, w) = or_parts (eqb b c) (eqb c a) d₁ in
       and_from (ltb a points && (ltb b points && ltb c points)) (not (eqb a b) && (not (eqb b c) && not (eqb c a)))
-          (and_from (ltb a points) (ltb b points && ltb c points) g.0 (and_from (ltb b points) (ltb c points) g.1 g.2))
-          (and_from (not (eqb a b)) (not (eqb b c) && not (eqb c a)) (not_from_false (eqb a b) u)
-          (and_from (not (eqb b c)) (not (eqb c a)) (not_from_false (eqb b c) v) (not_from_false (eqb c a) w)))
+      (and_from (ltb a points) (ltb b points && ltb c points) g.0 (and_from (ltb b points) (ltb c points) g.1 g.2))
+      (and_from (not (eqb a b)) (not (eqb b c) && not (eqb c a)) (not_from_false (eqb a b) u)
+      (and_from (not (eqb b c)) (not (eqb c a)) (not_from_false (eqb b c) v) (not_from_false (eqb c a) w)))
 
   face_good : (ws : List (List ℕ)) → Keeps (face_of ws n points triangles)
   face_good ws =

@@ -1,6 +1,6 @@
 // A word that stands for a number.
 ghost use Rattle.std.specs.Prelude.{◌≡◌, ℕ, ◌<◌, ℤ, pos, negsuc, ◌≤ℤ◌, IfSome, Option};
-ghost use Rattle.set_file.specs.Numbers.{unsigned_of, number_of, Converts, converted, coordinate_of, corner_of};
+ghost use Rattle.set_file.specs.Numbers.{unsigned_of, plus, number_of, Converts, converted, coordinate_of, corner_of};
 
 use mesh::in_limits;
 
@@ -21,9 +21,9 @@ pub enum WordFault {
 }
 
 // The number that one to five digits write. A `for`, since the bound that keeps the sums in range rests on how many digits came before.
-fn digits(ds: &[u8]) -> Option<u32>
-    ensures value { result ≡ unsigned_of ds.now }
-    ensures small { IfSome result (λ n. n < 100000) }
+fn digits(ds: &[u8]) -> Option<i32>
+    ensures value { result ≡ plus (unsigned_of ds.now) }
+    ensures small { IfSome result (λ v. (pos 0 ≤ℤ v) × (v ≤ℤ pos 99999)) }
 {
     if ds.is_empty() || ds.len() > 5 {
         return None;
@@ -35,7 +35,7 @@ fn digits(ds: &[u8]) -> Option<u32>
         }
         n = n * 10 + u32::from(b - b'0');
     }
-    Some(n)
+    i32::try_from(n).ok()
 }
 
 // The number that digits write, with or without a minus.
@@ -44,8 +44,8 @@ fn number(word: &[u8]) -> Option<i32>
     ensures small { IfSome result (λ v. (negsuc 99998 ≤ℤ v) × (v ≤ℤ pos 99999)) }
 {
     match word {
-        [b'-', rest @ ..] => Some(-(digits(rest)? as i32)),
-        _ => Some(digits(word)? as i32),
+        [b'-', rest @ ..] => digits(rest).map(|n| -n),
+        _ => digits(word),
     }
 }
 
@@ -74,9 +74,11 @@ pub fn corner(word: &[u8], points: usize, at: Place) -> Result<u32, WordFault>
     ensures { result ≡ corner_of word.now points at }
 {
     converted(word, at, |v| {
-        u32::try_from(v)
-            .ok()?
-            .checked_sub(1)
-            .filter(|&n| (n as usize) < points)
+        let n = usize::try_from(v).ok()?.checked_sub(1)?;
+        if n < points {
+            u32::try_from(n).ok()
+        } else {
+            None
+        }
     })
 }
