@@ -127,9 +127,13 @@ module _ (line body word rest : List ℕ) (b : body ≡ drop (position_or_len (e
   some_word h = words_body ∙ first_word body (subst (λ l. 0 < length l) w h) ∙ (λ i. sym w i ∷ words (sym r i))
 
   -- the word is given, if it has a byte
-  pub given : (w : Bor (List ℕ)) → w.now ≡ word → (empty : Bool) → empty ≡ eqb (length word) 0 → MatchOption (then_some (not empty) w) ((words line ≡ []) × (words rest ≡ [])) (λ x. words line ≡ x.now ∷ words rest)
-  given w e true h = no_word (eqb-true (length word) 0 (sym h))
-  given w e false h = some_word (let k : length word ≡ 0 → ⊥ = eqb-false (length word) 0 (sym h) in omega (arith, k)) ∙ ap (λ l. l ∷ words rest) (sym e)
+  pub given : (all : List (List ℕ)) (w : Bor (List ℕ)) (o : Option (Bor (List ℕ))) (empty : Bool) → words line ≡ all → w.now ≡ word → empty ≡ eqb (length word) 0 → o ≡ then_some (not empty) w → MatchOption o ((all ≡ []) × (words rest ≡ [])) (λ x. all ≡ x.now ∷ words rest)
+  given all w o true a e h p =
+      let none = no_word (eqb-true (length word) 0 (sym h)) in
+      subst (λ (r : Option (Bor (List ℕ))). MatchOption r ((all ≡ []) × (words rest ≡ [])) (λ x. all ≡ x.now ∷ words rest)) (sym p) (sym a ∙ none.0, none.1)
+  given all w o false a e h p =
+      let some = some_word (let k : length word ≡ 0 → ⊥ = eqb-false (length word) 0 (sym h) in omega (arith, k)) in
+      subst (λ (r : Option (Bor (List ℕ))). MatchOption r ((all ≡ []) × (words rest ≡ [])) (λ x. all ≡ x.now ∷ words rest)) (sym p) (sym a ∙ some ∙ ap (λ l. l ∷ words rest) (sym e))
 
 -- an iterator that gives the first of what is left comes nearer its end
 pub nearer : {S A B : Type 0} (view : A → B) (rest : S → List B) (s : S) (r : Option A) (t : S) → YieldsFirstBy view rest s r t → MakesProgress (λ _. ⊤) (item_count rest) s r t

@@ -94,7 +94,7 @@ pub fn read(
     if bytes.len() > limit {
         return Err(FileFault::Size);
     }
-    for (i, line) in Lines(bytes).enumerate() {
+    for (i, line) in Lines::new(bytes).enumerate() {
         let before = Before {
             line: i + 1,
             points: points.len(),

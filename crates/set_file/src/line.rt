@@ -11,17 +11,32 @@ ghost use Rattle.set_file.specs.Lines.{ReadsAs, trio, three_of, triple, place, v
 use crate::token::{Token, Words, cut};
 use crate::word::{Place, WordFault, coordinate, corner};
 use mesh::{ENTRY_LIMIT, Point, Triangle};
+use std::marker::Model;
 
-// The lines of a file, from the front on.
+// The lines of a file, from the front on: in contracts the list of those that are left.
 #[derive(Debug, Drop)]
-pub struct Lines<'a>(pub &'a [u8]);
+pub struct Lines<'a>(&'a [u8]);
+
+impl<'a> Model for Lines<'a> {
+    ghost Value = { List (List ℕ) };
+
+    ghost view = { λ s. lines s.0.now };
+}
+
+impl<'a> Lines<'a> {
+    pub fn new(bytes: &'a [u8]) -> Lines<'a>
+        ensures { result ≡ lines bytes.now }
+    {
+        Lines(bytes)
+    }
+}
 
 impl<'a> Iterator for Lines<'a> {
     type Item = &'a [u8];
 
-    ghost next_gives = { YieldsFirstRef (λ s. lines s.0.now) };
+    ghost next_gives = { YieldsFirstRef (λ rest. rest) };
 
-    ghost remaining = { item_count (λ s. lines s.0.now) };
+    ghost remaining = { item_count (λ rest. rest) };
 
     fn next(&mut self) -> Option<&'a [u8]> {
         if self.0.is_empty() {
@@ -68,7 +83,7 @@ impl From<WordFault> for LineFault {
 
 // The words that are left, if they are three.
 fn just_three<'a>(mut rest: Words<'a>) -> Option<(&'a [u8], &'a [u8], &'a [u8])>
-    ensures { option_map trio result ≡ three_of (words rest.entry.0.now) }
+    ensures { option_map trio result ≡ three_of rest.entry }
 {
     let three = (rest.next()?, rest.next()?, rest.next()?);
     match rest.next() {
@@ -103,7 +118,7 @@ impl Before {
         read: F,
     ) -> Result<(T, T, T), LineFault>
         requires { F.IsAlwaysCallable read }
-        ensures { (h : List ℕ → Place → Result T WordFault) → ReadsAs F.Fn read h → result ≡ triple h self.line (three_of (words rest.entry.0.now)) }
+        ensures { (h : List ℕ → Place → Result T WordFault) → ReadsAs F.Fn read h → result ≡ triple h self.line (three_of rest.entry) }
     {
         let (a, b, c) = just_three(rest).ok_or(LineFault::Count(self.line))?;
         let x = read(a, self.place(2))?;
@@ -114,7 +129,7 @@ impl Before {
 
     // The rest of a line that begins with `v`.
     fn vertex(self, rest: Words) -> Result<Entry, LineFault>
-        ensures { result ≡ vertex_of (words rest.entry.0.now) self.line self.points }
+        ensures { result ≡ vertex_of rest.entry self.line self.points }
     {
         let (x, y, z) = self.three(rest, coordinate)?;
         if self.points >= ENTRY_LIMIT {
@@ -125,7 +140,7 @@ impl Before {
 
     // The rest of a line that begins with `f`.
     fn face(self, rest: Words) -> Result<Entry, LineFault>
-        ensures { result ≡ face_of (words rest.entry.0.now) self.line self.points self.triangles }
+        ensures { result ≡ face_of rest.entry self.line self.points self.triangles }
     {
         let (a, b, c) = self.three(rest, |word, at| corner(word, self.points, at))?;
         if a == b || b == c || c == a {
@@ -139,7 +154,7 @@ impl Before {
 
     // A line whose first word is `word`.
     fn keyed(self, word: &[u8], rest: Words) -> Result<Entry, LineFault>
-        ensures { result ≡ keyed_of word.now (words rest.entry.0.now) self.line self.points self.triangles }
+        ensures { result ≡ keyed_of word.now rest.entry self.line self.points self.triangles }
     {
         if word.len() != 1 {
             return Err(LineFault::First(self.line));
@@ -155,7 +170,7 @@ impl Before {
     pub fn entry(self, line: &[u8]) -> Result<Option<Entry>, LineFault>
         ensures { result ≡ entry_of line.now self.line self.points self.triangles }
     {
-        let mut words = Words(line);
+        let mut words = Words::new(line);
         match words.next().map(Token::from) {
             None | Some(Token::Comment(_)) => Ok(None),
             Some(Token::Word(word)) => self.keyed(word, words).map(Some),

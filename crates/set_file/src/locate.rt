@@ -11,6 +11,6 @@ use crate::word::Place;
 pub fn word_at<'a>(bytes: &'a [u8], at: Place) -> Option<&'a [u8]>
     ensures { option_map (λ x. x.now) result ≡ word_at bytes.now at }
 {
-    let line = Lines(bytes).nth(at.line.checked_sub(1)?)?;
-    Words(line).nth(at.word.checked_sub(1)?)
+    let line = Lines::new(bytes).nth(at.line.checked_sub(1)?)?;
+    Words::new(line).nth(at.word.checked_sub(1)?)
 }

@@ -1,10 +1,12 @@
 // The words of a line.
-ghost use Rattle.std.specs.Prelude.{◌≡◌, ℕ, Bool, true, cond, take, drop};
+ghost use Rattle.std.specs.Prelude.{◌≡◌, ℕ, Bool, List, true, cond, take, drop};
 ghost use Rattle.std.specs.List.{position_or_len};
 ghost use Rattle.std.specs.Iterator.{YieldsFirstRef, item_count};
 ghost use Rattle.set_file.specs.Parts.{Tests, blank, words};
 ghost use Rattle.set_file.specs.declared.token.Token.TheVariants.{Comment, Word};
 ghost use Rattle.set_file.specs.Tokens.{is_comment};
+
+use std::marker::Model;
 
 // A word by its kind, its bytes a part of the line: by a rule of the format an enum, whose cases hold the bytes.
 #[derive(Clone, Copy, Debug)]
@@ -43,16 +45,30 @@ pub fn cut<'a, F: Fn(u8) -> bool>(bytes: &'a [u8], ends: F) -> (&'a [u8], &'a [u
     bytes.split_at(size)
 }
 
-// The words of a line, from the front on.
+// The words of a line, from the front on: in contracts the list of those that are left.
 #[derive(Debug, Drop)]
-pub struct Words<'a>(pub &'a [u8]);
+pub struct Words<'a>(&'a [u8]);
+
+impl<'a> Model for Words<'a> {
+    ghost Value = { List (List ℕ) };
+
+    ghost view = { λ s. words s.0.now };
+}
+
+impl<'a> Words<'a> {
+    pub fn new(line: &'a [u8]) -> Words<'a>
+        ensures { result ≡ words line.now }
+    {
+        Words(line)
+    }
+}
 
 impl<'a> Iterator for Words<'a> {
     type Item = &'a [u8];
 
-    ghost next_gives = { YieldsFirstRef (λ s. words s.0.now) };
+    ghost next_gives = { YieldsFirstRef (λ rest. rest) };
 
-    ghost remaining = { item_count (λ s. words s.0.now) };
+    ghost remaining = { item_count (λ rest. rest) };
 
     fn next(&mut self) -> Option<&'a [u8]> {
         let (_, body) = cut(self.0, |b| !is_blank(b));

@@ -27,9 +27,9 @@ pub loop-i-init : goal.loop-i-init
 loop-i-init c =
     let it = c.into_iter-i-iterator.result in
     let bytes = c.args.bytes.now in
-    let rest : lines it.iter.0.now ≡ lines bytes = ap (λ x. lines x.iter.0.now) c.into_iter-i-iterator.ensures.into_iter_gives ∙ ap (λ x. lines x.0.now) c.enumerate-i-items.ensures.source in
+    let rest : it.iter ≡ lines bytes = ap (λ x. x.iter) c.into_iter-i-iterator.ensures.into_iter_gives ∙ c.enumerate-i-items.ensures.source ∙ c.new.ensures in
     let none : it.count ≡ 0 = ap (λ x. x.count) c.into_iter-i-iterator.ensures.into_iter_gives ∙ c.enumerate-i-items.ensures.count in
-    let few : it.count + length (lines it.iter.0.now) ≤ length bytes = omega (arith, none, ap length rest, few_pieces ends bytes) in
+    let few : it.count + length it.iter ≤ length bytes = omega (arith, none, ap length rest, few_pieces ends bytes) in
     let room : length bytes < 2 ^ 64 = omega (arith, c.ranges.limit.fits) in
     (((tt, tt, inl (omega (arith, few, room))), tt), at_start (lines bytes) _ _ _ rest (omega (arith, none)), few, omega arith, omega arith)
 
@@ -59,7 +59,7 @@ loop-i-preserved c =
     let a = c.in_ok-append.ensures in
     let steps = c.in-Some.ensures.steps in
     let more : it.count ≡ c.loop-i.i-iterator.count + 1 = steps.2 in
-    let few : it.count + length (lines it.iter.0.now) ≤ length bytes = omega (arith, more, ap length steps.0, c.loop-i.invariant.2) in
+    let few : it.count + length it.iter ≤ length bytes = omega (arith, more, ap length steps.0, c.loop-i.invariant.2) in
     let room : length bytes < 2 ^ 64 = omega (arith, c.ranges.limit.fits) in (
       ((tt, tt, inl (omega (arith, few, room))), tt),
       after_line (lines bytes) _ (c.loop-i.i-iterator.count + 1) before s c.in-Some.line.now _ c.loop-i.invariant.1 steps.0 c.in_ok-entry.field-0 _ _ (entry d ∙ c.in_ok-entry.was) a.stored (ap (λ n. n + 1) more),

@@ -7,7 +7,7 @@ use Rattle.set_file.proofs.file.read.Given as goal
 abbrev pub invariant-loop-i : goal.invariant-loop-i
 invariant-loop-i l =
     ((goal.iterator-loop-i).can_next l.i-iterator × (goal.iterator-loop-i).is_finite l.i-iterator)
-    × Sofar (lines l.bytes) (lines l.i-iterator.iter.0.now) (l.i-iterator.count + 1) (lists l.initial.points l.initial.triangles) (lists l.points l.triangles)
-    × (l.i-iterator.count + length (lines l.i-iterator.iter.0.now) ≤ length l.bytes)
+    × Sofar (lines l.bytes) l.i-iterator.iter (l.i-iterator.count + 1) (lists l.initial.points l.initial.triangles) (lists l.points l.triangles)
+    × (l.i-iterator.count + length l.i-iterator.iter ≤ length l.bytes)
     × (vec_capacity l.initial.points ≤ vec_capacity l.points)
     × (vec_capacity l.initial.triangles ≤ vec_capacity l.triangles)

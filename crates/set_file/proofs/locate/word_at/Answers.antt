@@ -1,8 +1,6 @@
-use Rattle.std.proofs.Common.{ap, sym, refl, ◌∙◌, ◌≡◌, arith}
+use Rattle.std.proofs.Common.{ap, sym, ◌∙◌, ◌≡◌, arith}
 use Rattle.std.proofs.lemmas.Iterator.Consumers.{nth_from_yields_List, YieldsList-from_first}
 use Rattle.std.specs.Option.{option_map}
-use Rattle.set_file.specs.declared.line.Lines.{Lines}
-use Rattle.set_file.specs.declared.token.Words.{Words}
 use Rattle.set_file.specs.Parts.{lines, words}
 use Rattle.set_file.specs.Places.{numbered, word_of}
 use Rattle.set_file.proofs.Places.{item_at, no_item}
@@ -12,7 +10,7 @@ use Rattle.set_file.proofs.locate.word_at.Goals.{After-nth}
 -- what `nth` finds on a line, and in a line
 line : (c : After-nth) → option_map (λ x. x.now) c.nth.result ≡ numbered (lines c.args.bytes.now) c.args.at.line
 line c =
-    nth_from_yields_List c.nth.result c.nth.new.self _ c.nth.ensures.ran (YieldsList-from_first (λ x. x.now) (λ (s : Lines). lines s.0.now) (lines c.args.bytes.now) refl)
+    nth_from_yields_List c.nth.result c.nth.new.self _ c.nth.ensures.ran (YieldsList-from_first (λ x. x.now) (λ rest. rest) (lines c.args.bytes.now) c.new.ensures)
     ∙ item_at (lines c.args.bytes.now) _ _ c.in_ok-checked_sub.ensures.0 c.in_ok-checked_sub.ensures.1
 
 pub returns-in_err-checked_sub : goal.returns-in_err-checked_sub
@@ -39,6 +37,6 @@ pub returns : goal.returns
 returns c =
     let l = line (goal.at.returns c).After-nth in
     let some = ap (option_map (λ x. x.now)) (sym c.in_ok-line.was) ∙ l in
-    nth_from_yields_List c.nth-2.result c.nth-2.new.self _ c.nth-2.ensures.ran (YieldsList-from_first (λ x. x.now) (λ (s : Words). words s.0.now) (words c.in_ok-line.line.now) refl)
+    nth_from_yields_List c.nth-2.result c.nth-2.new.self _ c.nth-2.ensures.ran (YieldsList-from_first (λ x. x.now) (λ rest. rest) (words c.in_ok-line.line.now) c.new-2.ensures)
     ∙ item_at (words c.in_ok-line.line.now) _ _ c.in_ok-checked_sub-2.ensures.0 c.in_ok-checked_sub-2.ensures.1
     ∙ ap (λ o. word_of o c.args.at.word) some
