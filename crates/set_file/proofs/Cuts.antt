@@ -1,6 +1,8 @@
 -- Laws of pieces: how a line is cut off a file, and a word off a line. Assumes nothing.
-use Rattle.std.proofs.Common.{◌≡◌, ℕ, ◌+◌, ◌<◌, ◌≤◌, Bool, true, false, cond, not, List, [], ◌∷◌, length, take, drop, refl, sym, ap, ◌∙◌, subst, ⊎_elim, arith, Option, Some, None, ltb, suc, eqb, eqb-true, MatchOption, drop-drop}
-use Rattle.std.proofs.lemmas.Bool.{eqb-false, cond-true, cond-false, cases_Bool, ltb-false}
+use Rattle.std.proofs.Common.{◌≡◌, ℕ, ◌+◌, ◌<◌, ◌≤◌, Bool, true, false, not, List, [], ◌∷◌, length, drop, refl, sym, ap, ◌∙◌, subst, ⊎_elim, arith, Option, Some, None, eqb, eqb-true, MatchOption, drop-drop}
+use Rattle.std.proofs.lemmas.Grind.{common_steps}
+use Rattle.std.proofs.lemmas.Bool.Decides.{nat_tests}
+use Rattle.std.proofs.lemmas.Bool.{eqb-false, cond-true, cases_Bool}
 use Rattle.std.proofs.lemmas.List.{take_rest}
 use Rattle.std.proofs.lemmas.List.Sums.{prefix_len-le-length}
 use Rattle.std.specs.List.{position_or_len, position, before_first, after_first}
@@ -13,40 +15,15 @@ use Rattle.set_file.specs.Parts.{onto, pieces, filled, ends, blank, lines, words
 
 -- where `position` finds none, all bytes come before
 pub first_or_all : (p : ℕ → Bool) (bs : List ℕ) → unwrap_or (position p bs) (length bs) ≡ position_or_len p bs
-first_or_all p bs =
-    let n : ℕ = position_or_len p bs in
-    ⊎_elim
-    (λ e. ap (λ (o : Option ℕ). unwrap_or o (length bs)) (cond-true (ltb n (length bs)) (Some n) None e))
-    (λ e. ap (λ (o : Option ℕ). unwrap_or o (length bs)) (cond-false (ltb n (length bs)) (Some n) None e) ∙ (let h = ltb-false n (length bs) e in let k = prefix_len-le-length (λ x. not (p x)) bs in omega arith))
-    (cases_Bool (ltb n (length bs)))
-
--- a byte before n others is the first of n + 1
-one_more : (b n : ℕ) (bs : List ℕ) → take (1 + n) (b ∷ bs) ≡ b ∷ take n bs
-one_more b n bs = ap (λ m. take m (b ∷ bs)) (let e : 1 + n ≡ suc n = omega arith in e)
-
-one_less : (b n : ℕ) (bs : List ℕ) → drop (1 + n + 1) (b ∷ bs) ≡ drop (n + 1) bs
-one_less b n bs = ap (λ m. drop m (b ∷ bs)) (let e : 1 + n + 1 ≡ suc (n + 1) = omega arith in e)
-
--- a byte that is no mark is the first of the first piece
-step : (p : ℕ → Bool) (b c : ℕ) (cs : List ℕ) → pieces p (c ∷ cs) ≡ before_first p (c ∷ cs) ∷ pieces p (after_first p (c ∷ cs)) → onto b (pieces p (c ∷ cs)) ≡ take (1 + position_or_len p (c ∷ cs)) (b ∷ c ∷ cs) ∷ pieces p (drop (1 + position_or_len p (c ∷ cs) + 1) (b ∷ c ∷ cs))
-step p b c cs h = let n = position_or_len p (c ∷ cs) in ap (onto b) h ∙ (λ i. sym (one_more b n (c ∷ cs)) i ∷ pieces p (sym (one_less b n (c ∷ cs)) i))
+first_or_all p bs = grind (arith, common_steps, nat_tests, prefix_len-le-length (λ x. not (p x)) bs)
 
 abbrev pub except : (ℕ → Bool) → ℕ → Bool
 except p b = not (p b)
 
 -- the first piece runs to the first mark, and the others are those of what follows the mark
-pub first_piece : (p : ℕ → Bool) (b : ℕ) (bs : List ℕ) → pieces p (b ∷ bs) ≡ before_first p (b ∷ bs) ∷ pieces p (after_first p (b ∷ bs))
-first_piece p b [] =
-    elim (p b) as (λ v. cond v ([] ∷ []) ((b ∷ []) ∷ []) ≡ take (cond (not v) (1 + 0) 0) (b ∷ []) ∷ pieces p (drop (cond (not v) (1 + 0) 0 + 1) (b ∷ [])))
-    [ true ↦ refl | false ↦ refl ]
-first_piece p b (c ∷ cs) =
-    let n : ℕ = position_or_len p (c ∷ cs) in
-    elim (p b) as (λ v. cond v ([] ∷ pieces p (c ∷ cs)) (onto b (pieces p (c ∷ cs))) ≡ take (cond (not v) (1 + n) 0) (b ∷ c ∷ cs) ∷ pieces p (drop (cond (not v) (1 + n) 0 + 1) (b ∷ c ∷ cs)))
-    [ true ↦ refl | false ↦ step p b c cs (first_piece p c cs) ]
-
-pub no_lines : (rest : List ℕ) → length rest ≤ 0 → lines rest ≡ []
-no_lines [] h = refl
-no_lines (b ∷ rest) h = absurd (omega arith)
+first_piece : (p : ℕ → Bool) (b : ℕ) (bs : List ℕ) → pieces p (b ∷ bs) ≡ before_first p (b ∷ bs) ∷ pieces p (after_first p (b ∷ bs))
+first_piece p b [] = grind (arith, common_steps, nat_tests)
+first_piece p b (c ∷ cs) = let h = first_piece p c cs in grind (arith, common_steps, nat_tests)
 
 -- a line is cut off what is not empty
 pub cut_line : (bytes : List ℕ) → 0 < length bytes → lines bytes ≡ before_first ends bytes ∷ lines (after_first ends bytes)
@@ -55,10 +32,10 @@ cut_line (x ∷ bytes) h = first_piece ends x bytes
 
 -- what is left from the first byte on that passes: past one that does not, and at one that does
 past : (p : ℕ → Bool) (b : ℕ) (bs : List ℕ) → p b ≡ false → drop (position_or_len p (b ∷ bs)) (b ∷ bs) ≡ drop (position_or_len p bs) bs
-past p b bs e = ap (λ n. drop n (b ∷ bs)) (cond-true _ (1 + position_or_len p bs) 0 (ap not e) ∙ (let f : 1 + position_or_len p bs ≡ suc (position_or_len p bs) = omega arith in f))
+past p b bs e = grind (arith, common_steps, nat_tests)
 
 at : (p : ℕ → Bool) (b : ℕ) (bs : List ℕ) → p b ≡ true → drop (position_or_len p (b ∷ bs)) (b ∷ bs) ≡ b ∷ bs
-at p b bs e = ap (λ n. drop n (b ∷ bs)) (cond-false _ (1 + position_or_len p bs) 0 (ap not e))
+at p b bs e = grind (arith, common_steps, nat_tests)
 
 -- what is left is empty, or begins with a byte that passes
 abbrev pub Starts : (ℕ → Bool) → List ℕ → Type 0
@@ -85,7 +62,7 @@ filled_skip p (b ∷ bs) =
 -- nor does the one that ends a word
 filled_tail : (p : ℕ → Bool) (bs : List ℕ) → Starts p bs → filled (pieces p (drop 1 bs)) ≡ filled (pieces p bs)
 filled_tail p [] h = refl
-filled_tail p (b ∷ bs) h = sym (ap filled (cond-true _ _ _ h))
+filled_tail p (b ∷ bs) h = grind (arith, common_steps, nat_tests)
 
 filled_some : (w : List ℕ) (ws : List (List ℕ)) → 0 < length w → filled (w ∷ ws) ≡ w ∷ filled ws
 filled_some [] ws h = absurd (omega arith)
@@ -108,10 +85,7 @@ first_word (b ∷ bs) h =
 -- a body that begins with a byte of a word has one
 no_body : (body : List ℕ) → Starts (except blank) body → length (before_first blank body) ≡ 0 → body ≡ []
 no_body [] h e = refl
-no_body (b ∷ bs) h e =
-    let k : position_or_len blank (b ∷ bs) ≡ 1 + position_or_len blank bs = cond-true _ _ 0 h in
-    let f : suc (length (take (position_or_len blank bs) bs)) ≡ 0 = ap length (sym (ap (λ n. take n (b ∷ bs)) k ∙ one_more b _ bs)) ∙ e in
-    absurd (omega arith)
+no_body (b ∷ bs) h e = absurd (grind (arith, common_steps, nat_tests))
 
 -- a line cut into a word and the rest
 module _ (line body word rest : List ℕ) (b : body ≡ drop (position_or_len (except blank) line) line) (w : word ≡ before_first blank body) (r : rest ≡ drop (position_or_len blank body) body) where
@@ -145,8 +119,7 @@ pub line_step : (bytes line after rest : List ℕ) → 0 < length bytes → line
 line_step bytes line after rest h l a r = cut_line bytes h ∙ (λ i. sym l i ∷ lines (sym (r ∙ ap (drop 1) a ∙ sym (after_mark ends bytes)) i))
 
 no_rest : (after : List ℕ) → length after < 1 → [] ≡ drop 1 after
-no_rest [] h = refl
-no_rest (b ∷ bs) h = absurd (omega arith)
+no_rest after h = grind (arith, common_steps)
 
 -- what follows the first byte, or nothing
 pub rest_of : (after : List ℕ) (r : Option (Bor (List ℕ))) (d : Bor (List ℕ)) → IsGetRangeResult after 1 (length after) r → UnwrapsOrElse r (λ x. x.now ≡ []) d → d.now ≡ drop 1 after
@@ -160,10 +133,4 @@ onto_few b (w ∷ ws) n h = omega arith
 -- there are no more lines than bytes
 pub few_pieces : (p : ℕ → Bool) (bs : List ℕ) → length (pieces p bs) ≤ length bs
 few_pieces p [] = omega arith
-few_pieces p (b ∷ bs) =
-    let h = few_pieces p bs in
-    let k = onto_few b (pieces p bs) (length bs) h in
-    ⊎_elim
-    (λ e. subst (λ (ls : List (List ℕ)). length ls ≤ length (b ∷ bs)) (sym (cond-true (p b) ([] ∷ pieces p bs) (onto b (pieces p bs)) e)) (omega (arith, h)))
-    (λ e. subst (λ (ls : List (List ℕ)). length ls ≤ length (b ∷ bs)) (sym (cond-false (p b) ([] ∷ pieces p bs) (onto b (pieces p bs)) e)) (omega (arith, k)))
-    (cases_Bool (p b))
+few_pieces p (b ∷ bs) = let h = few_pieces p bs in let k = onto_few b (pieces p bs) (length bs) h in grind (arith, common_steps, nat_tests)

@@ -1,10 +1,11 @@
 -- Lists that keep the limits and the rules of places and corners still do after a reading. Assumes nothing.
-use Rattle.std.proofs.Common.{IfOk, ◌≡◌, ℕ, ◌+◌, ◌-◌, ◌<◌, Bool, true, false, not, ◌&&◌, ◌||◌, eqb, ltb, leb, List, [], ◌∷◌, ◌++◌, length, get_or, ℤ, pos, negsuc, Some, None, Ok, Err, Option, Result, sym, ap, ◌∙◌, ⊎_elim, arith}
+use Rattle.std.proofs.Common.{IfOk, ◌≡◌, ℕ, ◌+◌, ◌<◌, Bool, true, false, ◌&&◌, ◌||◌, eqb, ltb, List, [], ◌∷◌, ◌++◌, length, get_or, ℤ, pos, negsuc, Some, None, Ok, Err, Option, Result, sym, ap, ◌∙◌, ⊎_elim, arith}
 use Rattle.std.proofs.lemmas.List.{length_push}
 use Rattle.std.proofs.lemmas.Result.{IfOk-at_ok}
-use Rattle.std.proofs.lemmas.Bool.{cond_both, false≢true, and_parts, and_from, or_parts, not_from_false, ltb-true, lt-ltb, leb-true, le-leb}
+use Rattle.std.proofs.lemmas.Grind.{common_steps}
+use Rattle.std.proofs.lemmas.Bool.Decides.{nat_tests}
+use Rattle.std.proofs.lemmas.Bool.{cond_both, false≢true, and_from, ltb-true}
 use Rattle.mesh.specs.declared.Triangle.{Triangle}
-use Rattle.std.specs.List.{list_all}
 use Rattle.mesh.specs.Model.{in_limits}
 use Rattle.std.specs.Option.{ok_or}
 use Rattle.mesh.specs.Stored.{near, sound, set_fits}
@@ -46,9 +47,7 @@ module _ {T : Type 0} (test : ℤ → Bool) (value : ℤ → T) (P : T → Type 
       then_good _ _ P _ (word_good (number_of w.2) (place n 4)) (λ z r. (p, q, r))))
 
 below : (points : ℕ) (v : ℤ) → earlier points v ≡ true → ltb (from_zero v) points ≡ true
-below points (pos n) e =
-    let (a, b) = and_parts (leb 1 n) (leb n points) e in
-    lt-ltb (n - 1) points (let p = leb-true 1 n a in let q = leb-true n points b in omega arith)
+below points (pos n) e = grind (arith, common_steps, nat_tests)
 below points (negsuc n) e = absurd (false≢true e)
 
 -- what an entry keeps, after so many points and triangles
@@ -71,13 +70,7 @@ module _ (n points triangles : ℕ) where
 
   -- three earlier points, no two of them the same
   corners_sound : (a b c : ℕ) → (ltb a points ≡ true) × (ltb b points ≡ true) × (ltb c points ≡ true) → (eqb a b || (eqb b c || eqb c a)) ≡ false → sound points (record { a = a; b = b; c = c }) ≡ true
-  corners_sound a b c g d =
-      let (u, d₁) = or_parts (eqb a b) (eqb b c || eqb c a) d in
-      let (v, w) = or_parts (eqb b c) (eqb c a) d₁ in
-      and_from (ltb a points && (ltb b points && ltb c points)) (not (eqb a b) && (not (eqb b c) && not (eqb c a)))
-      (and_from (ltb a points) (ltb b points && ltb c points) g.0 (and_from (ltb b points) (ltb c points) g.1 g.2))
-      (and_from (not (eqb a b)) (not (eqb b c) && not (eqb c a)) (not_from_false (eqb a b) u)
-      (and_from (not (eqb b c)) (not (eqb c a)) (not_from_false (eqb b c) v) (not_from_false (eqb c a) w)))
+  corners_sound a b c g d = grind (arith, common_steps, nat_tests)
 
   face_good : (ws : List (List ℕ)) → Keeps (face_of ws n points triangles)
   face_good ws =
@@ -104,16 +97,7 @@ Fit s = set_fits s.points s.triangles ≡ true
 
 -- one point more does no harm to a triangle
 sound_more : (points : ℕ) (t : Triangle) → sound points t ≡ true → sound (points + 1) t ≡ true
-sound_more points t e =
-    let (i, d) = and_parts (ltb t.a points && (ltb t.b points && ltb t.c points)) _ e in
-    let (a, r) = and_parts (ltb t.a points) (ltb t.b points && ltb t.c points) i in
-    let (b, c) = and_parts (ltb t.b points) (ltb t.c points) r in
-    and_from (ltb t.a (points + 1) && (ltb t.b (points + 1) && ltb t.c (points + 1))) _
-    (and_from (ltb t.a (points + 1)) _ (more t.a a) (and_from (ltb t.b (points + 1)) _ (more t.b b) (more t.c c)))
-    d
-  where
-    more : (n : ℕ) → ltb n points ≡ true → ltb n (points + 1) ≡ true
-    more n l = lt-ltb n (points + 1) (let h = ltb-true n points l in omega arith)
+sound_more points t e = grind (arith, common_steps, nat_tests)
 
 entry_fits : (e : Option Entry) (s : Lists) → Good (length s.points) (length s.triangles) e → Fit s → Fit (with_entry e s)
 unfolding set_fits
@@ -121,21 +105,14 @@ entry_fits None s g f = f
 entry_fits (Some (Vertex p)) s g f =
     let P = length s.points in
     let grown : length (s.points ++ p ∷ []) ≡ P + 1 = length_push s.points p in
-    let (a, r) = and_parts (leb P 65536) (leb (length s.triangles) 65536 && (list_all near s.points && list_all (sound P) s.triangles)) f in
-    let (b, r₁) = and_parts (leb (length s.triangles) 65536) (list_all near s.points && list_all (sound P) s.triangles) r in
-    let (c, d) = and_parts (list_all near s.points) (list_all (sound P) s.triangles) r₁ in
-    and_from (leb (length (s.points ++ p ∷ [])) 65536) _ (le-leb (length (s.points ++ p ∷ [])) 65536 (omega (arith, grown, g.1)))
-    (and_from (leb (length s.triangles) 65536) _ b
-    (and_from (list_all near (s.points ++ p ∷ [])) _ (every_push near s.points p c g.0)
-    (ap (λ n. list_all (sound n) s.triangles) grown ∙ every_weaker (sound P) (sound (P + 1)) (sound_more P) s.triangles d)))
+    let kept = every_push near s.points p in
+    let still = every_weaker (sound P) (sound (P + 1)) (sound_more P) s.triangles in
+    grind (arith, common_steps, nat_tests)
 entry_fits (Some (Face t)) s g f =
     let P = length s.points in
-    let (a, r) = and_parts (leb P 65536) (leb (length s.triangles) 65536 && (list_all near s.points && list_all (sound P) s.triangles)) f in
-    let (b, r₁) = and_parts (leb (length s.triangles) 65536) (list_all near s.points && list_all (sound P) s.triangles) r in
-    let (c, d) = and_parts (list_all near s.points) (list_all (sound P) s.triangles) r₁ in
-    and_from (leb P 65536) _ a
-    (and_from (leb (length (s.triangles ++ t ∷ [])) 65536) _ (le-leb (length (s.triangles ++ t ∷ [])) 65536 (omega (arith, length_push s.triangles t, g.1)))
-    (and_from (list_all near s.points) _ c (every_push (sound P) s.triangles t d g.0)))
+    let grown = length_push s.triangles t in
+    let kept = every_push (sound P) s.triangles t in
+    grind (arith, common_steps, nat_tests)
 
 led_fits : (ls : List (List ℕ)) (n : ℕ) (s t : Lists) → Lead ls n s t → Fit s → Fit t
 led_fits [] n s t p f = ap (λ (x : Lists). set_fits x.points x.triangles) p ∙ f

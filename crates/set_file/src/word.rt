@@ -20,7 +20,8 @@ pub enum WordFault {
     Range(Place),
 }
 
-// The number that one to five digits write. A `for`, since the bound that keeps the sums in range rests on how many digits came before.
+// The number that one to five digits write.
+// It stays a loop: in a fold no clause could say that the number so far is small, and each step would need a check.
 fn digits(ds: &[u8]) -> Option<i32>
     ensures value { result ≡ plus (unsigned_of ds.now) }
     ensures small { IfSome result (λ v. (pos 0 ≤ℤ v) × (v ≤ℤ pos 99999)) }
@@ -30,10 +31,7 @@ fn digits(ds: &[u8]) -> Option<i32>
     }
     let mut n: u32 = 0;
     for &b in ds {
-        if !b.is_ascii_digit() {
-            return None;
-        }
-        n = n * 10 + u32::from(b - b'0');
+        n = n * 10 + char::from(b).to_digit(10)?;
     }
     i32::try_from(n).ok()
 }
