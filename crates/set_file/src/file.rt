@@ -60,7 +60,7 @@ impl FileFault {
     }
 }
 
-// Appends what line `at` adds.
+// Appends what line `at` adds. The lists stay apart, as those who call `read` hand them over.
 fn append(
     entry: Option<Entry>,
     at: usize,
