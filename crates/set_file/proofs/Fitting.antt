@@ -1,170 +1,124 @@
 -- Lists that keep the limits and the rules of places and corners still do after a reading. Assumes nothing.
-use Rattle.std.proofs.Common.{◌≡◌, ℕ, ◌+◌, ◌-◌, ◌<◌, Bool, true, not, ◌&&◌, ◌||◌, eqb, ltb, leb, List, [], ◌∷◌, ◌++◌, length, get_or, ℤ, pos, negsuc, nat_abs, Some, None, Ok, Err, Option, Result, sym, refl, ap, ◌∙◌, subst, ⊎_elim, arith}
+use Rattle.std.proofs.Common.{IfOk, ◌≡◌, ℕ, ◌+◌, ◌<◌, Bool, true, false, ◌&&◌, ◌||◌, eqb, ltb, List, [], ◌∷◌, ◌++◌, length, get_or, ℤ, pos, negsuc, Some, None, Ok, Err, Option, Result, sym, ap, ◌∙◌, ⊎_elim, arith}
 use Rattle.std.proofs.lemmas.List.{length_push}
-use Rattle.std.proofs.lemmas.Bool.{and_parts, and_from, or_parts, not_from_false, ltb-true, lt-ltb, leb-true, le-leb}
+use Rattle.std.proofs.lemmas.Result.{IfOk-at_ok}
+use Rattle.std.proofs.lemmas.Grind.{common_steps}
+use Rattle.std.proofs.lemmas.Bool.Decides.{nat_tests}
+use Rattle.std.proofs.lemmas.Bool.{cond_both, false≢true, and_from, ltb-true}
 use Rattle.mesh.specs.declared.Triangle.{Triangle}
-use Rattle.std.specs.List.{list_all}
-use Rattle.mesh.specs.Model.{in_limits as near_origin}
+use Rattle.mesh.specs.Model.{in_limits}
+use Rattle.std.specs.Option.{ok_or}
 use Rattle.mesh.specs.Stored.{near, sound, set_fits}
 use Rattle.mesh.proofs.Every.{every_push, every_weaker}
 use Rattle.set_file.specs.declared.word.Place.{Place}
 use Rattle.set_file.specs.declared.word.WordFault.{WordFault}
+use Rattle.set_file.specs.declared.word.WordFault.TheVariants.{Range}
 use Rattle.set_file.specs.declared.line.Entry.{Entry}
-use Rattle.set_file.specs.declared.line.Entry.TheVariants.{Nothing, Vertex, Face}
+use Rattle.set_file.specs.declared.line.Entry.TheVariants.{Vertex, Face}
 use Rattle.set_file.specs.declared.line.LineFault.{LineFault}
 use Rattle.set_file.specs.Parts.{words}
-use Rattle.set_file.specs.Numbers.{number_of, within, in_limits, coordinate_of, earlier, from_zero, corner_of}
+use Rattle.set_file.specs.Numbers.{number_of, converted, passing, earlier, from_zero}
 use Rattle.set_file.specs.Tokens.{is_comment}
-use Rattle.set_file.specs.Lines.{Trio, three_of, and_then, place, vertex_by, face_by, by_key, by_words}
+use Rattle.set_file.specs.Lines.{Trio, three_of, and_then, place, triple, made, vertex_of, face_of, keyed_of, entered, by_words}
 use Rattle.set_file.specs.declared.file.FileFault.{FileFault}
 use Rattle.set_file.specs.Files.{Lists, Reading, Reads, with_entry}
 use Rattle.set_file.specs.Laws.{Lead, FitsKept}
-use Rattle.set_file.proofs.Blame.{by_test}
 use Rattle.set_file.proofs.Meaning.{line_by_line}
 
--- a fault is no good answer
-not_err : {T E : Type 0} {A : Type 0} (e : E) (x : T) → ◌≡◌ {A = Result T E} (Err e) (Ok x) → A
-not_err e x p = let z : ◌≡◌ {A = ℕ} 0 1 = cc in absurd (omega arith)
+then_good : {T U : Type 0} (r : Result T WordFault) (k : T → Result U LineFault) (P : T → Type 0) (Q : U → Type 0) → IfOk r P → ((x : T) → P x → IfOk (k x) Q) → IfOk (and_then r k) Q
+then_good (Ok x) k P Q h g = g x h
+then_good (Err e) k P Q h g = tt
 
--- what is good came from a good word
-by_good : {T U A : Type 0} (r : Result T WordFault) (k : T → Result U LineFault) (u : U) → and_then r k ≡ Ok u → ((x : T) → r ≡ Ok x → k x ≡ Ok u → A) → A
-by_good (Ok x) k u h f = f x refl h
-by_good (Err e) k u h f = not_err _ u h
+made_good : {T : Type 0} (r : Result T LineFault) (k : T → Result Entry LineFault) (P : T → Type 0) (Q : Entry → Type 0) → IfOk r P → ((x : T) → P x → IfOk (k x) Q) → IfOk (made r k) Q
+made_good (Ok x) k P Q h g = g x h
+made_good (Err f) k P Q h g = tt
 
-good_word : (test : ℤ → Bool) (o : Option ℤ) (at : Place) (v : ℤ) → within test o at ≡ Ok v → test v ≡ true
-good_word test None at v h = not_err _ v h
-good_word test (Some w) at v h = by_test (test w) (Ok w) _ (Ok v) h (λ t p. let same : w ≡ v = cc in ap test (sym same) ∙ t) (λ t p. not_err _ v p)
+-- what good words give comes of numbers that pass the test
+module _ {T : Type 0} (test : ℤ → Bool) (value : ℤ → T) (P : T → Type 0) (each : (v : ℤ) → test v ≡ true → P (value v)) where
+  word_good : (o : Option ℤ) (at : Place) → IfOk (converted (passing test value) o at) P
+  word_good None at = tt
+  word_good (Some v) at = cond_both (test v) (Some (value v)) None (λ (o : Option T). IfOk (ok_or o (Range at)) P) (each v) (λ _. tt)
 
--- the limits of a coordinate, as a file has them and as a mesh has them
-within_mesh : (v : ℤ) → in_limits v ≡ true → near_origin v ≡ true
-within_mesh (pos n) e = let (a, b) = and_parts true (leb n 10000) e in b
-within_mesh (negsuc n) e =
-    let (a, b) = and_parts (leb n 9999) true e in
-    le-leb (nat_abs (negsuc n)) 10000 (let p = leb-true n 9999 a in omega arith)
+  three_good : (n : ℕ) (o : Option Trio) → IfOk (triple (λ word at. converted (passing test value) (number_of word) at) n o) (λ t. P t.0 × P t.1 × P t.2)
+  three_good n None = tt
+  three_good n (Some w) =
+      then_good _ _ P _ (word_good (number_of w.0) (place n 2)) (λ x p.
+      then_good _ _ P _ (word_good (number_of w.1) (place n 3)) (λ y q.
+      then_good _ _ P _ (word_good (number_of w.2) (place n 4)) (λ z r. (p, q, r))))
 
-coordinate : (word : List ℕ) (at : Place) (v : ℤ) → coordinate_of word at ≡ Ok v → near_origin v ≡ true
-coordinate word at v h = within_mesh v (good_word in_limits (number_of word) at v h)
-
-below : (points : ℕ) (v : ℤ) → earlier points v ≡ true → ltb (nat_abs v - 1) points ≡ true
-below points (pos n) e =
-    let (a, b) = and_parts (leb 1 n) (leb n points) e in
-    lt-ltb (n - 1) points (let p = leb-true 1 n a in let q = leb-true n points b in omega arith)
-below points (negsuc n) e = let z : ◌≡◌ {A = ℕ} 0 1 = cc in absurd (omega arith)
-
-good_from_zero : (r : Result ℤ WordFault) (c : ℕ) → from_zero r ≡ Ok c → (v : ℤ) × (r ≡ Ok v) × (nat_abs v - 1 ≡ c)
-good_from_zero (Ok v) c h = (v, refl, cc)
-good_from_zero (Err e) c h = not_err e c h
-
-corner : (word : List ℕ) (points : ℕ) (at : Place) (c : ℕ) → corner_of word points at ≡ Ok c → ltb c points ≡ true
-corner word points at c h =
-    let (v, r, e) = good_from_zero (within (earlier points) (number_of word) at) c h in
-    ap (λ n. ltb n points) (sym e) ∙ below points v (good_word (earlier points) (number_of word) at v r)
+below : (points : ℕ) (v : ℤ) → earlier points v ≡ true → ltb (from_zero v) points ≡ true
+below points (pos n) e = grind (arith, common_steps, nat_tests)
+below points (negsuc n) e = absurd (false≢true e)
 
 -- what an entry keeps, after so many points and triangles
-abbrev Good : ℕ → ℕ → Entry → Type 0
-Good points triangles Nothing = Unit {0}
-Good points triangles (Vertex p) = (near p ≡ true) × (points < 65536)
-Good points triangles (Face t) = (sound points t ≡ true) × (triangles < 65536)
+abbrev Good : ℕ → ℕ → Option Entry → Type 0
+Good points triangles None = Unit {0}
+Good points triangles (Some (Vertex p)) = (near p ≡ true) × (points < 65536)
+Good points triangles (Some (Face t)) = (sound points t ≡ true) × (triangles < 65536)
 
-module _ (n points triangles : ℕ) (e : Entry) where
-  abbrev So : Type 0
-  So = Good points triangles e
+module _ (n points triangles : ℕ) where
+  -- the entry, if there is one, keeps it
+  abbrev Keeps : Result Entry LineFault → Type 0
+  Keeps r = IfOk r (λ e. Good points triangles (Some e))
 
-  vertex_good : (o : Option Trio) → vertex_by o n points ≡ Ok e → So
-  vertex_good None h = not_err _ e h
-  vertex_good (Some t) h =
-      by_good (coordinate_of t.a (place n 2)) _ e h (λ x p h₁.
-      by_good (coordinate_of t.b (place n 3)) _ e h₁ (λ y q h₂.
-      by_good (coordinate_of t.c (place n 4)) _ e h₂ (λ z r h₃.
-      by_test (ltb points 65536) (Ok (Vertex (record { x = x; y = y; z = z }))) _ (Ok e) h₃
-      (λ f m.
-      let same : Vertex (record { x = x; y = y; z = z }) ≡ e = cc in
-      subst (Good points triangles) same (
-        and_from (near_origin x) (near_origin y && near_origin z) (coordinate t.a (place n 2) x p)
-            (and_from (near_origin y) (near_origin z) (coordinate t.b (place n 3) y q) (coordinate t.c (place n 4) z r)),
-        ltb-true points 65536 f,
-      ))
-      (λ f m. not_err _ e m))))
+  vertex_good : (ws : List (List ℕ)) → Keeps (vertex_of ws n points)
+  vertex_good ws =
+      made_good _ _ (λ t. (in_limits t.0 ≡ true) × (in_limits t.1 ≡ true) × (in_limits t.2 ≡ true)) _ (three_good in_limits (λ v. v) (λ v. in_limits v ≡ true) (λ v t. t) n (three_of ws)) (λ t g.
+      cond_both (ltb points 65536) _ _ Keeps
+      (λ f. (and_from (in_limits t.0) (in_limits t.1 && in_limits t.2) g.0 (and_from (in_limits t.1) (in_limits t.2) g.1 g.2), ltb-true points 65536 f))
+      (λ _. tt))
 
-  face_good : (o : Option Trio) → face_by o n points triangles ≡ Ok e → So
-  face_good None h = not_err _ e h
-  face_good (Some t) h =
-      by_good (corner_of t.a points (place n 2)) _ e h (λ a p h₁.
-      by_good (corner_of t.b points (place n 3)) _ e h₁ (λ b q h₂.
-      by_good (corner_of t.c points (place n 4)) _ e h₂ (λ c r h₃.
-      by_test (eqb a b || (eqb b c || eqb c a)) _ _ (Ok e) h₃ (λ d m. not_err _ e m) (λ d h₄.
-      by_test (ltb triangles 65536) (Ok (Face (record { a = a; b = b; c = c }))) _ (Ok e) h₄
-      (λ f m.
-      let same : Face (record { a = a; b = b; c = c }) ≡ e = cc in
-      let (u, d₁) = or_parts (eqb a b) (eqb b c || eqb c a) d in
-      let (v, w) = or_parts (eqb b c) (eqb c a) d₁ in
-      subst (Good points triangles) same (
-        and_from (ltb a points && (ltb b points && ltb c points)) (not (eqb a b) && (not (eqb b c) && not (eqb c a)))
-            (and_from (ltb a points) (ltb b points && ltb c points) (corner t.a points (place n 2) a p)
-            (and_from (ltb b points) (ltb c points) (corner t.b points (place n 3) b q) (corner t.c points (place n 4) c r)))
-            (and_from (not (eqb a b)) (not (eqb b c) && not (eqb c a)) (not_from_false (eqb a b) u)
-            (and_from (not (eqb b c)) (not (eqb c a)) (not_from_false (eqb b c) v) (not_from_false (eqb c a) w))),
-        ltb-true triangles 65536 f,
-      ))
-      (λ f m. not_err _ e m)))))
+  -- three earlier points, no two of them the same
+  corners_sound : (a b c : ℕ) → (ltb a points ≡ true) × (ltb b points ≡ true) × (ltb c points ≡ true) → (eqb a b || (eqb b c || eqb c a)) ≡ false → sound points (record { a = a; b = b; c = c }) ≡ true
+  corners_sound a b c g d = grind (arith, common_steps, nat_tests)
 
-  nothing_good : ◌≡◌ {A = Result Entry LineFault} (Ok Nothing) (Ok e) → So
-  nothing_good h = let same : Nothing ≡ e = cc in subst (Good points triangles) same tt
+  face_good : (ws : List (List ℕ)) → Keeps (face_of ws n points triangles)
+  face_good ws =
+      made_good _ _ (λ t. (ltb t.0 points ≡ true) × (ltb t.1 points ≡ true) × (ltb t.2 points ≡ true)) _ (three_good (earlier points) from_zero (λ c. ltb c points ≡ true) (below points) n (three_of ws)) (λ t g.
+      cond_both (eqb t.0 t.1 || (eqb t.1 t.2 || eqb t.2 t.0)) _ _ Keeps (λ _. tt) (λ d.
+      cond_both (ltb triangles 65536) _ _ Keeps (λ f. (corners_sound t.0 t.1 t.2 g d, ltb-true triangles 65536 f)) (λ _. tt)))
 
-  key_good : (k : ℕ) (ws : List (List ℕ)) → by_key k ws n points triangles ≡ Ok e → So
-  key_good k ws h =
-      by_test (eqb k 118) _ _ (Ok e) h (λ t p. vertex_good (three_of ws) p)
-      (λ t p. by_test (eqb k 102) _ _ (Ok e) p (λ u q. face_good (three_of ws) q) (λ u q. not_err _ e q))
+  key_good : (w : List ℕ) (ws : List (List ℕ)) → Keeps (keyed_of w ws n points triangles)
+  key_good w ws =
+      cond_both (eqb (length w) 1) _ _ Keeps
+      (λ _. cond_both (eqb (get_or w 0 0) 118) _ _ Keeps (λ _. vertex_good ws) (λ _. cond_both (eqb (get_or w 0 0) 102) _ _ Keeps (λ _. face_good ws) (λ _. tt)))
+      (λ _. tt)
 
-  words_good : (ws : List (List ℕ)) → by_words ws n points triangles ≡ Ok e → So
-  words_good [] h = nothing_good h
-  words_good (w ∷ ws) h =
-      by_test (is_comment w) _ _ (Ok e) h (λ t p. nothing_good p)
-      (λ t p. by_test (eqb (length w) 1) _ _ (Ok e) p (λ u q. key_good (get_or w 0 0) ws q) (λ u q. not_err _ e q))
+  entered_good : (r : Result Entry LineFault) → Keeps r → IfOk (entered r) (Good points triangles)
+  entered_good (Ok e) h = h
+  entered_good (Err f) h = tt
+
+  words_good : (ws : List (List ℕ)) → IfOk (by_words ws n points triangles) (Good points triangles)
+  words_good [] = tt
+  words_good (w ∷ ws) = cond_both (is_comment w) _ _ (λ r. IfOk r (Good points triangles)) (λ _. tt) (λ _. entered_good _ (key_good w ws))
 
 abbrev pub Fit : Lists → Type 0
 Fit s = set_fits s.points s.triangles ≡ true
 
 -- one point more does no harm to a triangle
 sound_more : (points : ℕ) (t : Triangle) → sound points t ≡ true → sound (points + 1) t ≡ true
-sound_more points t e =
-    let (i, d) = and_parts (ltb t.a points && (ltb t.b points && ltb t.c points)) _ e in
-    let (a, r) = and_parts (ltb t.a points) (ltb t.b points && ltb t.c points) i in
-    let (b, c) = and_parts (ltb t.b points) (ltb t.c points) r in
-    and_from (ltb t.a (points + 1) && (ltb t.b (points + 1) && ltb t.c (points + 1))) _
-    (and_from (ltb t.a (points + 1)) _ (more t.a a) (and_from (ltb t.b (points + 1)) _ (more t.b b) (more t.c c)))
-    d
-  where
-    more : (n : ℕ) → ltb n points ≡ true → ltb n (points + 1) ≡ true
-    more n l = lt-ltb n (points + 1) (let h = ltb-true n points l in omega arith)
+sound_more points t e = grind (arith, common_steps, nat_tests)
 
-entry_fits : (e : Entry) (s : Lists) → Good (length s.points) (length s.triangles) e → Fit s → Fit (with_entry e s)
+entry_fits : (e : Option Entry) (s : Lists) → Good (length s.points) (length s.triangles) e → Fit s → Fit (with_entry e s)
 unfolding set_fits
-entry_fits Nothing s g f = f
-entry_fits (Vertex p) s g f =
+entry_fits None s g f = f
+entry_fits (Some (Vertex p)) s g f =
     let P = length s.points in
     let grown : length (s.points ++ p ∷ []) ≡ P + 1 = length_push s.points p in
-    let (a, r) = and_parts (leb P 65536) (leb (length s.triangles) 65536 && (list_all near s.points && list_all (sound P) s.triangles)) f in
-    let (b, r₁) = and_parts (leb (length s.triangles) 65536) (list_all near s.points && list_all (sound P) s.triangles) r in
-    let (c, d) = and_parts (list_all near s.points) (list_all (sound P) s.triangles) r₁ in
-    and_from (leb (length (s.points ++ p ∷ [])) 65536) _ (le-leb (length (s.points ++ p ∷ [])) 65536 (omega (arith, grown, g.1)))
-    (and_from (leb (length s.triangles) 65536) _ b
-    (and_from (list_all near (s.points ++ p ∷ [])) _ (every_push near s.points p c g.0)
-    (ap (λ n. list_all (sound n) s.triangles) grown ∙ every_weaker (sound P) (sound (P + 1)) (sound_more P) s.triangles d)))
-entry_fits (Face t) s g f =
+    let kept = every_push near s.points p in
+    let still = every_weaker (sound P) (sound (P + 1)) (sound_more P) s.triangles in
+    grind (arith, common_steps, nat_tests)
+entry_fits (Some (Face t)) s g f =
     let P = length s.points in
-    let (a, r) = and_parts (leb P 65536) (leb (length s.triangles) 65536 && (list_all near s.points && list_all (sound P) s.triangles)) f in
-    let (b, r₁) = and_parts (leb (length s.triangles) 65536) (list_all near s.points && list_all (sound P) s.triangles) r in
-    let (c, d) = and_parts (list_all near s.points) (list_all (sound P) s.triangles) r₁ in
-    and_from (leb P 65536) _ a
-    (and_from (leb (length (s.triangles ++ t ∷ [])) 65536) _ (le-leb (length (s.triangles ++ t ∷ [])) 65536 (omega (arith, length_push s.triangles t, g.1)))
-    (and_from (list_all near s.points) _ c (every_push (sound P) s.triangles t d g.0)))
+    let grown = length_push s.triangles t in
+    let kept = every_push (sound P) s.triangles t in
+    grind (arith, common_steps, nat_tests)
 
 led_fits : (ls : List (List ℕ)) (n : ℕ) (s t : Lists) → Lead ls n s t → Fit s → Fit t
 led_fits [] n s t p f = ap (λ (x : Lists). set_fits x.points x.triangles) p ∙ f
 led_fits (l ∷ ls) n s t p f =
     led_fits ls (n + 1) (with_entry p.0 s) t p.2
-    (entry_fits p.0 s (words_good n (length s.points) (length s.triangles) p.0 (words l) p.1) f)
+    (entry_fits p.0 s (IfOk-at_ok (Good (length s.points) (length s.triangles)) p.1 (words_good n (length s.points) (length s.triangles) (words l))) f)
 
 pub fits_kept : FitsKept
 fits_kept m limit bytes s f =

@@ -1,46 +1,40 @@
 -- The laws of a reading: how it ends, line by line, and what it keeps. Assumes nothing.
 use Rattle.std.proofs.Common.{◌≡◌, ℕ, zero, suc, ◌+◌, ◌<◌, ◌⊎◌, List, [], ◌∷◌, ◌++◌, length, Some, None, Ok, Err, Option, Result, sym, refl, ap, ◌∙◌, subst, inl, inr, ⊎_elim, append_assoc, append-nil, add-zero, arith}
+use Rattle.std.proofs.lemmas.Option.{none-some}
 use Rattle.std.proofs.lemmas.Bool.{cond-false, cases_lt, lt-leb}
 use Rattle.mesh.specs.declared.Point.{Point}
 use Rattle.mesh.specs.declared.Triangle.{Triangle}
 use Rattle.set_file.specs.declared.line.Entry.{Entry}
-use Rattle.set_file.specs.declared.line.Entry.TheVariants.{Nothing, Vertex, Face}
+use Rattle.set_file.specs.declared.line.Entry.TheVariants.{Vertex, Face}
 use Rattle.set_file.specs.declared.line.LineFault.{LineFault}
 use Rattle.set_file.specs.declared.line.LineFault.TheVariants.{Memory}
 use Rattle.set_file.specs.declared.file.FileFault.TheVariants.{Size, Line}
 use Rattle.set_file.specs.Parts.{lines}
-use Rattle.set_file.specs.Files.{Lists, Reading, MemoryFor, all, only, one_less, spend, with_entry, entry_at, stopped, read_lines, reading}
+use Rattle.set_file.specs.Files.{Lists, Reading, MemoryFor, all, only, spend, with_entry, entry_at, stopped, or_short, enter, read_lines, reading}
 use Rattle.set_file.specs.Laws.{Lead, Done, Refused, Short, LineByLine, GoodFiles, Extends, Kept}
-use Rattle.set_file.proofs.Readings.{spend_all, next_line, no_memory, bad_line, in_limit}
+use Rattle.set_file.proofs.Readings.{spend_all, next_line, in_limit}
 
 abbrev Ending : MemoryFor → List (List ℕ) → ℕ → Lists → Reading → Type 0
 Ending m ls n s r = Done ls n s r ⊎ (Refused ls n s r ⊎ Short m ls n s r)
 
 -- only the last of a limited memory is nothing
-spent : (e : Entry) (m : MemoryFor) → spend e m ≡ None → m ≡ only 0
-spent Nothing m p = let z : ◌≡◌ {A = ℕ} 0 1 = cc in absurd (omega arith)
-spent (Vertex v) all p = let z : ◌≡◌ {A = ℕ} 0 1 = cc in absurd (omega arith)
-spent (Vertex v) (only zero) p = refl
-spent (Vertex v) (only (suc k)) p = let z : ◌≡◌ {A = ℕ} 0 1 = cc in absurd (omega arith)
-spent (Face t) all p = let z : ◌≡◌ {A = ℕ} 0 1 = cc in absurd (omega arith)
-spent (Face t) (only zero) p = refl
-spent (Face t) (only (suc k)) p = let z : ◌≡◌ {A = ℕ} 0 1 = cc in absurd (omega arith)
-
-one_less_limited : (m : MemoryFor) (k : ℕ) → one_less m ≡ Some (only k) → (j : ℕ) × (m ≡ only j)
-one_less_limited all k p = let z : all ≡ only k = cc in let y : ◌≡◌ {A = ℕ} 0 1 = cc in absurd (omega arith)
-one_less_limited (only j) k p = (j, refl)
+spent : (e : Option Entry) (m : MemoryFor) → spend e m ≡ None → m ≡ only 0
+spent None m p = absurd (none-some m (sym p))
+spent (Some e) all p = absurd (none-some all (sym p))
+spent (Some e) (only zero) p = refl
+spent (Some e) (only (suc k)) p = absurd (none-some (only k) (sym p))
 
 -- a memory that leaves a limited one is limited
-spent_limited : (e : Entry) (m : MemoryFor) (k : ℕ) → spend e m ≡ Some (only k) → (j : ℕ) × (m ≡ only j)
-spent_limited Nothing m k p = (k, cc)
-spent_limited (Vertex v) m k p = one_less_limited m k p
-spent_limited (Face t) m k p = one_less_limited m k p
+spent_limited : (e : Option Entry) (m : MemoryFor) (k : ℕ) → spend e m ≡ Some (only k) → (j : ℕ) × (m ≡ only j)
+spent_limited None m k p = (k, cc)
+spent_limited (Some e) all k p = let z : all ≡ only k = cc in let y : ◌≡◌ {A = ℕ} 0 1 = cc in absurd (omega arith)
+spent_limited (Some e) (only j) k p = (j, refl)
 
 past : (n : ℕ) (good : List (List ℕ)) (l : List ℕ) → n + length (l ∷ good) ≡ (n + 1) + length good
 past n good l = omega arith
 
 -- one good line more in front
-module _ (m k : MemoryFor) (l : List ℕ) (ls : List (List ℕ)) (n : ℕ) (s : Lists) (e : Entry) (h : entry_at l n s ≡ Ok e) (p : spend e m ≡ Some k) (r : Reading) where
+module _ (m k : MemoryFor) (l : List ℕ) (ls : List (List ℕ)) (n : ℕ) (s : Lists) (e : Option Entry) (h : entry_at l n s ≡ Ok e) (p : spend e m ≡ Some k) (r : Reading) where
   done_more : Done ls (n + 1) (with_entry e s) r → Done (l ∷ ls) n s r
   done_more d = record { led = (e, h, d.led); answer = d.answer }
 
@@ -94,7 +88,7 @@ module _ (m : MemoryFor) (l : List ℕ) (ls : List (List ℕ)) (n : ℕ) (s : Li
     answer = refl;
   }))
 
-  short_here : (e : Entry) → entry_at l n s ≡ Ok e → spend e m ≡ None → Here (stopped s (Line (Memory n)))
+  short_here : (e : Option Entry) → entry_at l n s ≡ Ok e → spend e m ≡ None → Here (stopped s (Line (Memory n)))
   short_here e h p = inr (inr (record {
     good = [];
     last = l;
@@ -109,13 +103,17 @@ module _ (m : MemoryFor) (l : List ℕ) (ls : List (List ℕ)) (n : ℕ) (s : Li
     answer = ap (λ i. Err (Line (Memory i))) (sym (add-zero n));
   }))
 
-  by_memory : (e : Entry) → entry_at l n s ≡ Ok e → ((k : MemoryFor) → Ending k ls (n + 1) (with_entry e s) (read_lines k ls (n + 1) (with_entry e s))) → (o : Option MemoryFor) → spend e m ≡ o → Here (read_lines m (l ∷ ls) n s)
-  by_memory e h later None p = subst Here (sym (no_memory m l ls n s e h p)) (short_here e h p)
-  by_memory e h later (Some k) p = subst Here (sym (next_line m k l ls n s e h p)) (ending_more m k l ls n s e h p _ (later k))
+  -- what comes after the line
+  abbrev later : Lists → MemoryFor → Reading
+  later t k = read_lines k ls (n + 1) t
 
-  by_entry : ((e : Entry) (k : MemoryFor) → Ending k ls (n + 1) (with_entry e s) (read_lines k ls (n + 1) (with_entry e s))) → (o : Result Entry LineFault) → entry_at l n s ≡ o → Here (read_lines m (l ∷ ls) n s)
-  by_entry later (Ok e) h = by_memory e h (later e) (spend e m) refl
-  by_entry later (Err f) h = subst Here (sym (bad_line m l ls n s f h)) (refused_here f h)
+  by_memory : (e : Option Entry) → entry_at l n s ≡ Ok e → ((k : MemoryFor) → Ending k ls (n + 1) (with_entry e s) (later (with_entry e s) k)) → (o : Option MemoryFor) → spend e m ≡ o → Here (or_short o n s (later (with_entry e s)))
+  by_memory e h ends None p = short_here e h p
+  by_memory e h ends (Some k) p = ending_more m k l ls n s e h p _ (ends k)
+
+  by_entry : ((e : Option Entry) (k : MemoryFor) → Ending k ls (n + 1) (with_entry e s) (later (with_entry e s) k)) → (o : Result (Option Entry) LineFault) → entry_at l n s ≡ o → Here (enter o m n s later)
+  by_entry ends (Ok e) h = by_memory e h (ends e) (spend e m) refl
+  by_entry ends (Err f) h = refused_here f h
 
 ended : (m : MemoryFor) (ls : List (List ℕ)) (n : ℕ) (s : Lists) → Ending m ls n s (read_lines m ls n s)
 ended m [] n s = inl (record { led = refl; answer = refl })
@@ -133,7 +131,7 @@ line_by_line m limit bytes s =
 
 led : (ls : List (List ℕ)) (n : ℕ) (s t : Lists) → Lead ls n s t → read_lines all ls n s ≡ record { held = t; answer = Ok tt }
 led [] n s t p = ap (λ (x : Lists). record { held = x; answer = Ok tt }) (sym p)
-led (l ∷ ls) n s t p = next_line all all l ls n s p.0 p.1 (spend_all p.0) ∙ led ls (n + 1) (with_entry p.0 s) t p.2
+led (l ∷ ls) n s t p = next_line all l ls n s all p.0 p.1 (spend_all p.0) ∙ led ls (n + 1) (with_entry p.0 s) t p.2
 
 pub good_files : GoodFiles
 good_files limit bytes s t h p = in_limit all limit bytes s h ∙ led (lines bytes) 1 s t p
@@ -146,10 +144,10 @@ extends_none s t e = record {
   triangles = ap (λ (x : Lists). x.triangles) e ∙ sym (append-nil s.triangles);
 }
 
-extends_entry : (e : Entry) (s : Lists) → Extends s (with_entry e s)
-extends_entry Nothing s = extends_none s s refl
-extends_entry (Vertex p) s = record { new_points = p ∷ []; new_triangles = []; points = refl; triangles = sym (append-nil s.triangles) }
-extends_entry (Face t) s = record { new_points = []; new_triangles = t ∷ []; points = sym (append-nil s.points); triangles = refl }
+extends_entry : (e : Option Entry) (s : Lists) → Extends s (with_entry e s)
+extends_entry None s = extends_none s s refl
+extends_entry (Some (Vertex p)) s = record { new_points = p ∷ []; new_triangles = []; points = refl; triangles = sym (append-nil s.triangles) }
+extends_entry (Some (Face t)) s = record { new_points = []; new_triangles = t ∷ []; points = sym (append-nil s.points); triangles = refl }
 
 extends_more : (s t u : Lists) → Extends s t → Extends t u → Extends s u
 extends_more s t u a b = record {

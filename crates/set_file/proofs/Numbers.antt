@@ -1,23 +1,12 @@
 -- Laws of the numbers that words write. Assumes nothing.
-use Rattle.std.proofs.Common.{◌≡◌, ℕ, ◌+◌, ◌-◌, ◌*◌, ◌^◌, ◌<◌, ◌≤◌, ◌⊎◌, List, [], ◌∷◌, length, get_or, drop, None, inl, inr, arith}
+use Rattle.std.proofs.Common.{◌≡◌, ℕ, ◌^◌, ◌<◌, ◌≤◌, List, [], ◌∷◌, length, arith}
 use native.Mathlib.Nat.{pow-le-pow_right}
-use Rattle.std.proofs.lemmas.Bool.{cond-true, cond-false, le-leb, lt-leb, and_from, and_left, and_right, eq-eqb}
-use Rattle.set_file.specs.Numbers.{after, unsigned_of, number_of, minus}
+use Rattle.std.proofs.lemmas.Bool.{cond-true, le-leb}
+use Rattle.set_file.specs.Numbers.{after, unsigned_of}
 
 pub sized : (bs : List ℕ) → 0 < length bs → length bs ≤ 5 → unsigned_of bs ≡ after 0 bs
 sized [] h k = absurd (omega arith)
 sized (b ∷ bs) h k = cond-true _ _ _ (le-leb (length bs) 4 (omega arith))
 
-pub after_digit : (n b : ℕ) (bs : List ℕ) → 48 ≤ b → b ≤ 57 → after n (b ∷ bs) ≡ after (n * 10 + (b - 48)) bs
-after_digit n b bs h k = cond-true _ _ _ (and_from _ _ (le-leb _ _ h) (le-leb _ _ k))
-
-pub after_other : (n b : ℕ) (bs : List ℕ) → (b < 48) ⊎ ((48 ≤ b) × (57 < b)) → after n (b ∷ bs) ≡ None
-after_other n b bs (inl h) = cond-false _ _ _ (and_left _ _ (lt-leb _ _ h))
-after_other n b bs (inr h) = cond-false _ _ _ (and_right _ _ (lt-leb _ _ h.1))
-
 pub ten_pow : (i : ℕ) → i ≤ 5 → 10 ^ i ≤ 100000
 ten_pow i h = let some : 0 < 10 = omega arith in pow-le-pow_right some h
-
-pub number_minus : (w : List ℕ) → get_or w 0 0 ≡ 45 → number_of w ≡ minus (unsigned_of (drop 1 w))
-number_minus [] e = absurd (omega arith)
-number_minus (b ∷ bs) e = cond-true _ _ _ (eq-eqb b 45 e)

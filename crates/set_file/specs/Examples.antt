@@ -68,7 +68,7 @@ pub record Examples : Type 0 where
   -- 7: a full list, and only the list that would grow
   pub full_points : entry_of (codes "v 0 0 0") 9 65536 0 ≡ Err (Full 9)
   pub full_triangles : entry_of (codes "f 1 2 3") 9 3 65536 ≡ Err (Full 9)
-  pub other_full : entry_of (codes "f 1 2 3") 9 65536 65535 ≡ Ok (Face (corners 0 1 2))
+  pub other_full : entry_of (codes "f 1 2 3") 9 65536 65535 ≡ Ok (Some (Face (corners 0 1 2)))
   pub full_told : refusal_of (Line (Full 9)) ≡ refused 7 9 0
   -- the first question that is answered with no is told
   pub first_before_count : tells (codes "vn x") ≡ refused 2 1 1

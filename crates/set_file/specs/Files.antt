@@ -4,7 +4,7 @@ use Rattle.std.specs.declared.alloc.Global.{Global}
 use Rattle.mesh.specs.declared.Point.{Point}
 use Rattle.mesh.specs.declared.Triangle.{Triangle}
 use Rattle.set_file.specs.declared.line.Entry.{Entry}
-use Rattle.set_file.specs.declared.line.Entry.TheVariants.{Nothing, Vertex, Face}
+use Rattle.set_file.specs.declared.line.Entry.TheVariants.{Vertex, Face}
 use Rattle.set_file.specs.declared.line.LineFault.{LineFault}
 use Rattle.set_file.specs.declared.line.LineFault.TheVariants.{Memory}
 use Rattle.set_file.specs.declared.file.FileFault.{FileFault}
@@ -34,22 +34,21 @@ pub record Reading : Type 0 where
 abbrev pub stopped : Lists → FileFault → Reading
 stopped s f = record { held = s; answer = Err f }
 
--- the lists with one entry more
-abbrev pub with_entry : Entry → Lists → Lists
-with_entry Nothing s = s
-with_entry (Vertex p) s = record { points = s.points ++ p ∷ []; triangles = s.triangles }
-with_entry (Face t) s = record { points = s.points; triangles = s.triangles ++ t ∷ [] }
+-- the lists with what a line adds
+abbrev pub with_entry : Option Entry → Lists → Lists
+with_entry None s = s
+with_entry (Some (Vertex p)) s = record { points = s.points ++ p ∷ []; triangles = s.triangles }
+with_entry (Some (Face t)) s = record { points = s.points; triangles = s.triangles ++ t ∷ [] }
 
 abbrev pub one_less : MemoryFor → Option MemoryFor
 one_less all = Some all
 one_less (only zero) = None
 one_less (only (suc k)) = Some (only k)
 
--- the memory that is left after an entry, if it found any
-abbrev pub spend : Entry → MemoryFor → Option MemoryFor
-spend Nothing m = Some m
-spend (Vertex p) m = one_less m
-spend (Face t) m = one_less m
+-- the memory that is left after what a line adds, if it found any
+abbrev pub spend : Option Entry → MemoryFor → Option MemoryFor
+spend None m = Some m
+spend (Some e) m = one_less m
 
 -- a reading goes on if line n's entry found memory, else it stops there
 abbrev pub or_short : Option MemoryFor → ℕ → Lists → (MemoryFor → Reading) → Reading
@@ -57,12 +56,12 @@ or_short None n s go = stopped s (Line (Memory n))
 or_short (Some m) n s go = go m
 
 -- line n's entry is appended; its fault becomes the file's, and the lists stay
-abbrev pub enter : Result Entry LineFault → MemoryFor → ℕ → Lists → (Lists → MemoryFor → Reading) → Reading
+abbrev pub enter : Result (Option Entry) LineFault → MemoryFor → ℕ → Lists → (Lists → MemoryFor → Reading) → Reading
 enter (Ok e) m n s go = or_short (spend e m) n s (go (with_entry e s))
 enter (Err f) m n s go = stopped s (Line f)
 
 -- the entry of line n, after the lists s
-abbrev pub entry_at : List ℕ → ℕ → Lists → Result Entry LineFault
+abbrev pub entry_at : List ℕ → ℕ → Lists → Result (Option Entry) LineFault
 entry_at line n s = entry_of line n (length s.points) (length s.triangles)
 
 -- some lines, of which the first is line n
@@ -91,6 +90,6 @@ abbrev pub Outgrown : ℕ → ℕ → Lists → Type 0
 Outgrown for-points for-triangles s = (for-points ≤ length s.points) ⊎ (for-triangles ≤ length s.triangles)
 
 -- an entry of line n is appended, or it found no memory and the lists are as before
-abbrev pub Appended : Entry → ℕ → Lists → Lists → Result (Unit {0}) LineFault → Type 0
+abbrev pub Appended : Option Entry → ℕ → Lists → Lists → Result (Unit {0}) LineFault → Type 0
 Appended e n before after (Ok u) = after ≡ with_entry e before
 Appended e n before after (Err f) = (f ≡ Memory n) × (after ≡ before) × (spend e (only 0) ≡ None)

@@ -1,7 +1,8 @@
 -- What the reading of a file means, in terms of its lines and words. Assumes nothing.
-use Rattle.std.specs.Prelude.{◌≡◌, ℕ, ◌+◌, ◌<◌, ◌≤◌, true, false, ◌⊎◌, List, [], ◌∷◌, ◌++◌, length, ℤ, Some, None, Ok, Err, codes, ◌≢◌}
+use Rattle.std.specs.Prelude.{◌≡◌, ℕ, ◌+◌, ◌<◌, ◌≤◌, true, false, ◌⊎◌, List, [], ◌∷◌, ◌++◌, length, ℤ, Some, None, Ok, Err, codes, ◌≢◌, Option}
 use Rattle.mesh.specs.declared.Point.{Point}
 use Rattle.mesh.specs.declared.Triangle.{Triangle}
+use Rattle.mesh.specs.Model.{in_limits}
 use Rattle.mesh.specs.Stored.{set_fits}
 use Rattle.set_file.specs.declared.word.Place.{Place}
 use Rattle.set_file.specs.declared.word.WordFault.TheVariants.{Form, Range}
@@ -12,7 +13,7 @@ use Rattle.set_file.specs.declared.file.FileFault.TheVariants.{Size, Line}
 use Rattle.set_file.specs.Parts.{lines, words}
 use Rattle.set_file.specs.declared.file.Refusal.{Refusal}
 use Rattle.set_file.specs.Refusals.{refusal_of}
-use Rattle.set_file.specs.Numbers.{number_of, in_limits, earlier}
+use Rattle.set_file.specs.Numbers.{number_of, earlier}
 use Rattle.set_file.specs.Lines.{entry_of}
 use Rattle.set_file.specs.Places.{numbered}
 use Rattle.set_file.specs.Files.{Lists, Reading, MemoryFor, all, only, spend, with_entry, entry_at, stopped, reading}
@@ -20,7 +21,7 @@ use Rattle.set_file.specs.Files.{Lists, Reading, MemoryFor, all, only, spend, wi
 -- some lines, of which the first is line n, are good, and their entries lead from the lists s to t
 abbrev pub Lead : List (List ℕ) → ℕ → Lists → Lists → Type 0
 Lead [] n s t = t ≡ s
-Lead (l ∷ ls) n s t = (e : Entry) × (entry_at l n s ≡ Ok e) × Lead ls (n + 1) (with_entry e s) t
+Lead (l ∷ ls) n s t = (e : Option Entry) × (entry_at l n s ≡ Ok e) × Lead ls (n + 1) (with_entry e s) t
 
 -- all lines are good, and the answer says so
 pub record Done (ls : List (List ℕ)) (n : ℕ) (s : Lists) (r : Reading) : Type 0 where
@@ -43,7 +44,7 @@ pub record Short (m : MemoryFor) (ls : List (List ℕ)) (n : ℕ) (s : Lists) (r
   pub good : List (List ℕ)
   pub last : List ℕ
   pub more : List (List ℕ)
-  pub entry : Entry
+  pub entry : Option Entry
   pub room : ℕ
   pub limited : m ≡ only room
   pub cut : ls ≡ good ++ last ∷ more

@@ -1,17 +1,17 @@
 -- The number that a word writes, and which numbers are in range. Assumes nothing.
-use Rattle.std.specs.Prelude.{ℕ, ◌+◌, ◌-◌, ◌*◌, Bool, cond, ◌&&◌, List, [], ◌∷◌, length, ℤ, pos, negsuc, neg_ℤ, Some, None, Ok, Err, Option, Result, ◌==◌, int_le, nat_le, unsigned_abs}
+use Rattle.std.specs.Prelude.{◌≡◌, ℕ, ◌+◌, ◌-◌, ◌*◌, Bool, cond, ◌&&◌, List, [], ◌∷◌, length, ℤ, pos, neg_ℤ, Some, None, Err, Option, Result, ◌==◌, int_le, nat_le, unsigned_abs}
+use Rattle.std.specs.Char.{is_ascii_digit}
+use Rattle.std.specs.Fn.{Once}
+use Rattle.std.specs.Option.{ok_or}
+use Rattle.mesh.specs.Model.{in_limits}
 use Rattle.set_file.specs.declared.word.Place.{Place}
 use Rattle.set_file.specs.declared.word.WordFault.{WordFault}
 use Rattle.set_file.specs.declared.word.WordFault.TheVariants.{Form, Range}
 
--- one of the bytes `0` to `9`
-abbrev pub digit : ℕ → Bool
-digit b = nat_le 48 b && nat_le b 57
-
 -- the number that digits write after those of n; none if one is no digit
 abbrev pub after : ℕ → List ℕ → Option ℕ
 after n [] = Some n
-after n (b ∷ bs) = cond (digit b) (after (n * 10 + (b - 48)) bs) None
+after n (b ∷ bs) = cond (is_ascii_digit b) (after (n * 10 + (b - 48)) bs) None
 
 -- one to five digits
 abbrev pub unsigned_of : List ℕ → Option ℕ
@@ -31,28 +31,31 @@ abbrev pub number_of : List ℕ → Option ℤ
 number_of [] = None
 number_of (b ∷ bs) = cond (b == 45) (minus (unsigned_of bs)) (plus (unsigned_of (b ∷ bs)))
 
--- a number that has to pass a test, written by the word at a place
-abbrev pub within : (ℤ → Bool) → Option ℤ → Place → Result ℤ WordFault
-within test None at = Err (Form at)
-within test (Some v) at = cond (test v) (Ok v) (Err (Range at))
+-- the number that a word at a place writes, as h takes it
+abbrev pub converted : {T : Type 0} → (ℤ → Option T) → Option ℤ → Place → Result T WordFault
+converted h None at = Err (Form at)
+converted h (Some v) at = ok_or (h v) (Range at)
 
--- a coordinate lies in −10,000 to 10,000
-abbrev pub in_limits : ℤ → Bool
-in_limits v = int_le (negsuc 9999) v && int_le v (pos 10000)
+-- each call of f answers what h gives
+abbrev pub Converts : {F T : Type 0} → Once F (ℤ × Unit {0}) (Option T) → F → (ℤ → Option T) → Type 0
+Converts {T = T} g f h = (v : ℤ) (r : Option T) → g.post f (v, tt) r → r ≡ h v
 
--- the coordinate that a word writes
+-- what a number that passes a test gives
+abbrev pub passing : {T : Type 0} → (ℤ → Bool) → (ℤ → T) → ℤ → Option T
+passing test value v = cond (test v) (Some (value v)) None
+
+-- the coordinate that a word writes: a number within the limits of a mesh
 abbrev pub coordinate_of : List ℕ → Place → Result ℤ WordFault
-coordinate_of word at = within in_limits (number_of word) at
+coordinate_of word at = converted (passing in_limits (λ v. v)) (number_of word) at
 
 -- the number of one of n earlier points, counted from 1
 abbrev pub earlier : ℕ → ℤ → Bool
 earlier n v = int_le (pos 1) v && int_le v (pos n)
 
 -- a point's number, counted from 0
-abbrev pub from_zero : Result ℤ WordFault → Result ℕ WordFault
-from_zero (Ok v) = Ok (unsigned_abs v - 1)
-from_zero (Err e) = Err e
+abbrev pub from_zero : ℤ → ℕ
+from_zero v = unsigned_abs v - 1
 
 -- the corner that a word names, after n points
 abbrev pub corner_of : List ℕ → ℕ → Place → Result ℕ WordFault
-corner_of word n at = from_zero (within (earlier n) (number_of word) at)
+corner_of word n at = converted (passing (earlier n) from_zero) (number_of word) at

@@ -1,5 +1,6 @@
 -- Bytes cut into lines, and a line into words. Assumes nothing.
-use Rattle.std.specs.Prelude.{ℕ, suc, Bool, cond, ◌||◌, List, [], ◌∷◌, ◌==◌}
+use Rattle.std.specs.Prelude.{◌≡◌, ℕ, Bool, cond, ◌||◌, List, [], ◌∷◌, ◌==◌}
+use Rattle.std.specs.Fn.{Shared}
 
 -- b put in front of the first piece
 abbrev pub onto : ℕ → List (List ℕ) → List (List ℕ)
@@ -33,11 +34,6 @@ lines bytes = pieces ends bytes
 abbrev pub words : List ℕ → List (List ℕ)
 words line = filled (pieces blank line)
 
--- how many bytes at the front pass p
-abbrev pub span : (ℕ → Bool) → List ℕ → ℕ
-span p [] = 0
-span p (b ∷ bs) = cond (p b) (suc (span p bs)) 0
-
-abbrev pub tail : {A : Type 0} → List A → List A
-tail [] = []
-tail (x ∷ xs) = xs
+-- each call of f answers what p gives
+abbrev pub Tests : {F : Type 0} → Shared F (ℕ × Unit {0}) Bool → F → (ℕ → Bool) → Type 0
+Tests g f p = (b : ℕ) (r : Bool) → g.post f (b, tt) r → r ≡ p b

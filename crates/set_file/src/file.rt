@@ -4,7 +4,7 @@ ghost use Rattle.set_file.specs.declared.file.FileFault.TheVariants.{Line};
 ghost use Rattle.set_file.specs.Files.{lists, short, Appended, Outgrown, Reads};
 ghost use Rattle.set_file.specs.Refusals.{refusal_of};
 
-use crate::line::{Entry, LineFault, next_line, read_line};
+use crate::line::{Before, Entry, LineFault, Lines};
 use crate::word::{Place, WordFault};
 use mesh::{Point, Triangle};
 
@@ -30,7 +30,7 @@ impl From<LineFault> for FileFault {
     }
 }
 
-// What a fault tells: the number of the question that was answered with no, and where.
+// What a fault tells: the number of the question that was answered with no, and where. By rule the form of every refusal.
 // The line is 0 where the question is not about one line, and the word where it is not about one word.
 #[derive(Clone, Copy, Debug, PartialEq, Eq)]
 pub struct Refusal {
@@ -60,9 +60,9 @@ impl FileFault {
     }
 }
 
-// Appends the entry of line `at`.
+// Appends what line `at` adds. The lists stay apart, as those who call `read` hand them over.
 fn append(
-    entry: Entry,
+    entry: Option<Entry>,
     at: usize,
     points: &mut Vec<Point>,
     triangles: &mut Vec<Triangle>,
@@ -73,15 +73,9 @@ fn append(
     ensures outgrown { OnErr result (Outgrown (vec_capacity points.old) (vec_capacity triangles.old) (lists points.old triangles.old)) }
 {
     match entry {
-        Entry::Nothing => Ok(()),
-        Entry::Vertex(p) => match points.push(p) {
-            Ok(()) => Ok(()),
-            Err(_) => Err(LineFault::Memory(at)),
-        },
-        Entry::Face(t) => match triangles.push(t) {
-            Ok(()) => Ok(()),
-            Err(_) => Err(LineFault::Memory(at)),
-        },
+        None => Ok(()),
+        Some(Entry::Vertex(p)) => points.push(p).map_err(|_| LineFault::Memory(at)),
+        Some(Entry::Face(t)) => triangles.push(t).map_err(|_| LineFault::Memory(at)),
     }
 }
 
@@ -100,15 +94,13 @@ pub fn read(
     if bytes.len() > limit {
         return Err(FileFault::Size);
     }
-    let mut rest = bytes;
-    let mut before: usize = 0;
-    while rest.len() > 0 {
-        let (line, after) = next_line(rest);
-        let at = before + 1;
-        let entry = read_line(line, at, points.len(), triangles.len())?;
-        append(entry, at, points, triangles)?;
-        rest = after;
-        before = at;
+    for (i, line) in Lines::new(bytes).enumerate() {
+        let before = Before {
+            line: i + 1,
+            points: points.len(),
+            triangles: triangles.len(),
+        };
+        append(before.entry(line)?, before.line, points, triangles)?;
     }
     Ok(())
 }

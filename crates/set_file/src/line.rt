@@ -1,17 +1,57 @@
 // A line, and the entry that it adds.
-ghost use Rattle.std.specs.Prelude.{◌≡◌, ℕ, ◌<◌, [], ◌∷◌, length, MatchOption};
+ghost use Rattle.std.specs.Prelude.{◌≡◌, ℕ, List, Ok, Result};
+ghost use Rattle.set_file.specs.declared.word.Place.{Place};
+ghost use Rattle.set_file.specs.declared.word.WordFault.{WordFault};
+ghost use Rattle.std.specs.Iterator.{YieldsFirstRef, item_count};
+ghost use Rattle.std.specs.Option.{option_map};
 ghost use Rattle.set_file.specs.declared.line.LineFault.TheVariants.{Word};
-ghost use Rattle.set_file.specs.Parts.{words, lines};
-ghost use Rattle.set_file.specs.Lines.{trio, three_of, vertex_of, face_of, keyed_of, entry_of};
+ghost use Rattle.set_file.specs.Parts.{lines, words};
+ghost use Rattle.set_file.specs.Lines.{ReadsAs, trio, three_of, triple, place, vertex_of, face_of, keyed_of, entry_of};
 
-use crate::token::{Class, Token, next_word, run};
+use crate::token::{Token, Words, cut};
 use crate::word::{Place, WordFault, coordinate, corner};
 use mesh::{ENTRY_LIMIT, Point, Triangle};
+use std::marker::Model;
+
+// The lines of a file, from the front on: in contracts the list of those that are left.
+#[derive(Debug, Drop)]
+pub struct Lines<'a>(&'a [u8]);
+
+impl<'a> Model for Lines<'a> {
+    ghost Value = { List (List ℕ) };
+
+    ghost view = { λ s. lines s.0.now };
+}
+
+impl<'a> Lines<'a> {
+    pub fn new(bytes: &'a [u8]) -> Lines<'a>
+        ensures { result ≡ lines bytes.now }
+    {
+        Lines(bytes)
+    }
+}
+
+impl<'a> Iterator for Lines<'a> {
+    type Item = &'a [u8];
+
+    ghost next_gives = { YieldsFirstRef (λ rest. rest) };
+
+    ghost remaining = { item_count (λ rest. rest) };
+
+    fn next(&mut self) -> Option<&'a [u8]> {
+        if self.0.is_empty() {
+            return None;
+        }
+        let (line, after) = cut(self.0, |b| b == b'\n');
+        // The LF itself belongs to no line.
+        self.0 = after.get(1..).unwrap_or_default();
+        Some(line)
+    }
+}
 
 // What a line adds to the lists.
 #[derive(Clone, Copy, Debug, PartialEq, Eq)]
 pub enum Entry {
-    Nothing,
     Vertex(Point),
     Face(Triangle),
 }
@@ -41,120 +81,99 @@ impl From<WordFault> for LineFault {
     }
 }
 
-// The three words after a line's first.
-#[derive(Clone, Copy, Debug)]
-struct Three<'a> {
-    a: &'a [u8],
-    b: &'a [u8],
-    c: &'a [u8],
-}
-
-// The first line of some bytes, and what follows its LF.
-pub fn next_line<'a>(bytes: &'a [u8]) -> (&'a [u8], &'a [u8])
-    ensures cut { 0 < length bytes.now → lines bytes.now ≡ result.0.now ∷ lines result.1.now }
-    ensures shorter { 0 < length bytes.now → length result.1.now < length bytes.now }
-{
-    let size = run(bytes, Class::Inline);
-    let (line, after) = bytes.split_at(size);
-    if after.len() > 0 {
-        (line, &after[1..])
-    } else {
-        (line, after)
-    }
-}
-
-// The next word, of whatever kind, and what follows it.
-pub fn any_word<'a>(rest: &'a [u8]) -> Option<(&'a [u8], &'a [u8])>
-    ensures { MatchOption result (words rest.now ≡ []) (λ p. words rest.now ≡ p.0.now ∷ words p.1.now) }
-{
-    match next_word(rest) {
-        (Token::End, _) => None,
-        (Token::Comment(w), after) => Some((w, after)),
-        (Token::Word(w), after) => Some((w, after)),
-    }
-}
-
 // The words that are left, if they are three.
-fn just_three<'a>(rest: &'a [u8]) -> Option<Three<'a>>
-    ensures { trio result ≡ three_of (words rest.now) }
+fn just_three<'a>(mut rest: Words<'a>) -> Option<(&'a [u8], &'a [u8], &'a [u8])>
+    ensures { option_map trio result ≡ three_of rest.entry }
 {
-    let (a, rest) = any_word(rest)?;
-    let (b, rest) = any_word(rest)?;
-    let (c, rest) = any_word(rest)?;
-    match any_word(rest) {
-        None => Some(Three { a, b, c }),
+    let three = (rest.next()?, rest.next()?, rest.next()?);
+    match rest.next() {
+        None => Some(three),
         Some(_) => None,
     }
 }
 
-// The rest of a line that begins with `v`, after `points` points.
-fn vertex(rest: &[u8], at: usize, points: usize) -> Result<Entry, LineFault>
-    ensures { result ≡ vertex_of (words rest.now) at points }
-{
-    let Some(t) = just_three(rest) else {
-        return Err(LineFault::Count(at));
-    };
-    let x = coordinate(t.a, Place { line: at, word: 2 })?;
-    let y = coordinate(t.b, Place { line: at, word: 3 })?;
-    let z = coordinate(t.c, Place { line: at, word: 4 })?;
-    if points >= ENTRY_LIMIT {
-        return Err(LineFault::Full(at));
-    }
-    Ok(Entry::Vertex(Point { x, y, z }))
+// Where a line stands: its number, and how many points and triangles the lines before it gave.
+#[derive(Clone, Copy, Debug)]
+pub struct Before {
+    pub line: usize,
+    pub points: usize,
+    pub triangles: usize,
 }
 
-// The rest of a line that begins with `f`, after `points` points and `triangles` triangles.
-fn face(rest: &[u8], at: usize, points: usize, triangles: usize) -> Result<Entry, LineFault>
-    ensures { result ≡ face_of (words rest.now) at points triangles }
-{
-    let Some(t) = just_three(rest) else {
-        return Err(LineFault::Count(at));
-    };
-    let a = corner(t.a, points, Place { line: at, word: 2 })?;
-    let b = corner(t.b, points, Place { line: at, word: 3 })?;
-    let c = corner(t.c, points, Place { line: at, word: 4 })?;
-    if a == b || b == c || c == a {
-        return Err(LineFault::Same(at));
+impl Before {
+    // A word's place in the line.
+    fn place(self, word: usize) -> Place
+        ensures { result ≡ place self.line word }
+    {
+        Place {
+            line: self.line,
+            word,
+        }
     }
-    if triangles >= ENTRY_LIMIT {
-        return Err(LineFault::Full(at));
-    }
-    Ok(Entry::Face(Triangle { a, b, c }))
-}
 
-// A line whose first word is `word`.
-fn keyed(
-    word: &[u8],
-    rest: &[u8],
-    at: usize,
-    points: usize,
-    triangles: usize,
-) -> Result<Entry, LineFault>
-    ensures { result ≡ keyed_of word.now (words rest.now) at points triangles }
-{
-    if word.len() != 1 {
-        return Err(LineFault::First(at));
+    // What `read` makes of the three words that are left of the line.
+    fn three<T: Copy, F: Fn(&[u8], Place) -> Result<T, WordFault>>(
+        self,
+        rest: Words,
+        read: F,
+    ) -> Result<(T, T, T), LineFault>
+        requires { F.IsAlwaysCallable read }
+        ensures { (h : List ℕ → Place → Result T WordFault) → ReadsAs F.Fn read h → result ≡ triple h self.line (three_of rest.entry) }
+    {
+        let (a, b, c) = just_three(rest).ok_or(LineFault::Count(self.line))?;
+        let x = read(a, self.place(2))?;
+        let y = read(b, self.place(3))?;
+        let z = read(c, self.place(4))?;
+        Ok((x, y, z))
     }
-    match char::from(word[0]) {
-        'v' => vertex(rest, at, points),
-        'f' => face(rest, at, points, triangles),
-        _ => Err(LineFault::First(at)),
-    }
-}
 
-// The entry that line `at` adds, after `points` points and `triangles` triangles.
-pub fn read_line(
-    line: &[u8],
-    at: usize,
-    points: usize,
-    triangles: usize,
-) -> Result<Entry, LineFault>
-    ensures { result ≡ entry_of line.now at points triangles }
-{
-    let (first, rest) = next_word(line);
-    match first {
-        Token::End => Ok(Entry::Nothing),
-        Token::Comment(_) => Ok(Entry::Nothing),
-        Token::Word(word) => keyed(word, rest, at, points, triangles),
+    // The rest of a line that begins with `v`.
+    fn vertex(self, rest: Words) -> Result<Entry, LineFault>
+        ensures { result ≡ vertex_of rest.entry self.line self.points }
+    {
+        let (x, y, z) = self.three(rest, coordinate)?;
+        if self.points >= ENTRY_LIMIT {
+            return Err(LineFault::Full(self.line));
+        }
+        Ok(Entry::Vertex(Point { x, y, z }))
+    }
+
+    // The rest of a line that begins with `f`.
+    fn face(self, rest: Words) -> Result<Entry, LineFault>
+        ensures { result ≡ face_of rest.entry self.line self.points self.triangles }
+    {
+        let (a, b, c) = self.three(rest, |word, at| corner(word, self.points, at))?;
+        if a == b || b == c || c == a {
+            return Err(LineFault::Same(self.line));
+        }
+        if self.triangles >= ENTRY_LIMIT {
+            return Err(LineFault::Full(self.line));
+        }
+        Ok(Entry::Face(Triangle { a, b, c }))
+    }
+
+    // A line whose first word is `word`.
+    fn keyed(self, word: &[u8], rest: Words) -> Result<Entry, LineFault>
+        ensures { result ≡ keyed_of word.now rest.entry self.line self.points self.triangles }
+    {
+        if word.len() != 1 {
+            return Err(LineFault::First(self.line));
+        }
+        match char::from(word[0]) {
+            'v' => self.vertex(rest),
+            'f' => self.face(rest),
+            _ => Err(LineFault::First(self.line)),
+        }
+    }
+
+    // The entry that the line adds, if it adds one.
+    pub fn entry(self, line: &[u8]) -> Result<Option<Entry>, LineFault>
+        ensures { result ≡ entry_of line.now self.line self.points self.triangles }
+    {
+        let mut words = Words::new(line);
+        match words.next().map(Token::from) {
+            None | Some(Token::Comment(_)) => Ok(None),
+            Some(Token::Word(word)) => self.keyed(word, words).map(Some),
+        }
     }
 }

@@ -1,8 +1,8 @@
 // A word that stands for a number.
-ghost use Rattle.std.specs.Prelude.{◌≡◌, ℕ, ◌<◌, pos, negsuc, ◌≤ℤ◌, IfSome};
-ghost use Rattle.set_file.specs.Numbers.{unsigned_of, number_of, coordinate_of, corner_of};
+ghost use Rattle.std.specs.Prelude.{◌≡◌, ℕ, ◌<◌, ℤ, pos, negsuc, ◌≤ℤ◌, IfSome, Option};
+ghost use Rattle.set_file.specs.Numbers.{unsigned_of, plus, number_of, Converts, converted, coordinate_of, corner_of};
 
-use mesh::COORDINATE_LIMIT;
+use mesh::in_limits;
 
 // Where a word stands: its line and its place in the line, both counted from 1.
 #[derive(Clone, Copy, Debug, PartialEq, Eq)]
@@ -21,21 +21,19 @@ pub enum WordFault {
 }
 
 // The number that one to five digits write.
-fn digits(ds: &[u8]) -> Option<u32>
-    ensures value { result ≡ unsigned_of ds.now }
-    ensures small { IfSome result (λ n. n < 100000) }
+// It stays a loop: in a fold no clause could say that the number so far is small, and each step would need a check.
+fn digits(ds: &[u8]) -> Option<i32>
+    ensures value { result ≡ plus (unsigned_of ds.now) }
+    ensures small { IfSome result (λ v. (pos 0 ≤ℤ v) × (v ≤ℤ pos 99999)) }
 {
     if ds.is_empty() || ds.len() > 5 {
         return None;
     }
     let mut n: u32 = 0;
     for &b in ds {
-        if b < b'0' || b'9' < b {
-            return None;
-        }
-        n = n * 10 + u32::from(b - b'0');
+        n = n * 10 + char::from(b).to_digit(10)?;
     }
-    Some(n)
+    i32::try_from(n).ok()
 }
 
 // The number that digits write, with or without a minus.
@@ -44,29 +42,41 @@ fn number(word: &[u8]) -> Option<i32>
     ensures small { IfSome result (λ v. (negsuc 99998 ≤ℤ v) × (v ≤ℤ pos 99999)) }
 {
     match word {
-        [b'-', rest @ ..] => Some(-(digits(rest)? as i32)),
-        _ => Some(digits(word)? as i32),
+        [b'-', rest @ ..] => digits(rest).map(|n| -n),
+        _ => digits(word),
     }
+}
+
+// The number that a word writes, as `convert` takes it.
+fn converted<T, F: FnOnce(i32) -> Option<T>>(
+    word: &[u8],
+    at: Place,
+    convert: F,
+) -> Result<T, WordFault>
+    requires { F.IsAlwaysCallable convert }
+    ensures { (h : ℤ → Option T) → Converts F.FnOnce convert h → result ≡ converted h (number_of word.now) at }
+{
+    let v = number(word).ok_or(WordFault::Form(at))?;
+    convert(v).ok_or(WordFault::Range(at))
 }
 
 // A coordinate.
 pub fn coordinate(word: &[u8], at: Place) -> Result<i32, WordFault>
     ensures { result ≡ coordinate_of word.now at }
 {
-    match number(word) {
-        Some(v) if -COORDINATE_LIMIT <= v && v <= COORDINATE_LIMIT => Ok(v),
-        Some(_) => Err(WordFault::Range(at)),
-        None => Err(WordFault::Form(at)),
-    }
+    converted(word, at, |v| in_limits(v).then_some(v))
 }
 
 // The number of one of `points` earlier points: written from 1, given from 0.
 pub fn corner(word: &[u8], points: usize, at: Place) -> Result<u32, WordFault>
     ensures { result ≡ corner_of word.now points at }
 {
-    match number(word) {
-        Some(v) if 1 <= v && v as usize <= points => Ok(v as u32 - 1),
-        Some(_) => Err(WordFault::Range(at)),
-        None => Err(WordFault::Form(at)),
-    }
+    converted(word, at, |v| {
+        let n = usize::try_from(v).ok()?.checked_sub(1)?;
+        if n < points {
+            u32::try_from(n).ok()
+        } else {
+            None
+        }
+    })
 }

@@ -1,72 +1,96 @@
-use Rattle.std.proofs.Common.{◌≡◌, ℕ, ◌+◌, ◌≤◌, length, Err, sym, ap, ◌∙◌, arith}
+use Rattle.std.proofs.Common.{◌≡◌, ◌+◌, ◌≤◌, ◌<◌, ◌^◌, length, Err, sym, ap, ◌∙◌, inl, arith}
 use Rattle.std.proofs.lemmas.Result.{err_from_is_err_and}
 use Rattle.set_file.specs.declared.file.FileFault.TheVariants.{Line}
 use Rattle.set_file.specs.Lines.{entry_of}
+use Rattle.set_file.specs.Parts.{lines, ends}
 use Rattle.set_file.specs.Files.{lists, entry_at, short}
-use Rattle.set_file.proofs.Readings.{after_line, at_fault, at_short, at_end, in_limit, reads_all, reads_fault, reads_short, outgrown_before}
+use Rattle.set_file.proofs.Cuts.{few_pieces}
 use Rattle.set_file.proofs.Blame.{not_short}
+use Rattle.std.proofs.lemmas.Bool.{true≢false}
+use Rattle.set_file.specs.declared.line.LineFault.TheVariants.{Memory}
+use Rattle.set_file.proofs.Readings.{at_start, after_line, at_fault, at_short, at_end, in_limit, reads_all, reads_fault, reads_short, outgrown_before}
 use Rattle.set_file.proofs.file.read.Goals as goal
-use Rattle.set_file.proofs.file.read.Goals.{After-read_line}
+use Rattle.set_file.proofs.file.read.Goals.{After-entry}
 
 -- the entry of the line goes by the lists as they are
-entry : (c : After-read_line) → entry_at c.next_line.result.0.now (c.loop-rest.before + 1) (lists c.loop-rest.points c.loop-rest.triangles) ≡ c.read_line.result
+entry : (c : After-entry) → entry_at c.in-Some.line.now (c.loop-i.i-iterator.count + 1) (lists c.loop-i.points c.loop-i.triangles) ≡ c.entry.result
 entry c =
-    let e = c.len.ensures ∙ c.loop-rest.points.ok.0 in
-    let f = c.len-in-loop-rest.ensures ∙ c.loop-rest.triangles.ok.0 in
-    sym (c.read_line.ensures ∙ (λ i. entry_of c.next_line.result.0.now (c.loop-rest.before + 1) (e i) (f i)))
+    let n = ap (λ n. n + 1) c.in-Some.ensures.steps.1 in
+    let e = c.len.ensures ∙ c.loop-i.points.ok.0 in
+    let f = c.len-in-loop-i.ensures ∙ c.loop-i.triangles.ok.0 in
+    sym (c.entry.ensures ∙ (λ i. entry_of c.in-Some.line.now (n i) (e i) (f i)))
 
-within : (c : After-read_line) → length c.args.bytes.now ≤ c.args.limit
+within : (c : After-entry) → length c.args.bytes.now ≤ c.args.limit
 within c = omega arith
+
+pub loop-i-init : goal.loop-i-init
+loop-i-init c =
+    let it = c.into_iter-i-iterator.result in
+    let bytes = c.args.bytes.now in
+    let rest : it.iter ≡ lines bytes = ap (λ x. x.iter) c.into_iter-i-iterator.ensures.into_iter_gives ∙ c.enumerate-i-items.ensures.source ∙ c.new.ensures in
+    let none : it.count ≡ 0 = ap (λ x. x.count) c.into_iter-i-iterator.ensures.into_iter_gives ∙ c.enumerate-i-items.ensures.count in
+    let few : it.count + length it.iter ≤ length bytes = omega (arith, none, ap length rest, few_pieces ends bytes) in
+    let room : length bytes < 2 ^ 64 = omega (arith, c.ranges.limit.fits) in
+    (((tt, tt, inl (omega (arith, few, room))), tt), at_start (lines bytes) _ _ _ rest (omega (arith, none)), few, omega arith, omega arith)
 
 pub returns-in_err-entry : goal.returns-in_err-entry
 returns-in_err-entry c =
     let p = err_from_is_err_and c.from_residual.result c.from_residual.ensures.1 in
-    let d = (goal.at.returns-in_err-entry c).After-read_line in
-    let s = lists c.loop-rest.points c.loop-rest.triangles in
+    let d = (goal.at.returns-in_err-entry c).After-entry in
+    let s = lists c.loop-i.points c.loop-i.triangles in
     let before = lists c.args.points.now c.args.triangles.now in
     let bytes = c.args.bytes.now in
-    let line = c.next_line.result.0.now in
-    let n = c.loop-rest.before + 1 in
+    let line = c.in-Some.line.now in
+    let n = c.loop-i.i-iterator.count + 1 in
     let bad = entry d ∙ c.in_err-entry.was in
     let told = p.1 ∙ ap Err p.2 in
     record {
-      reads = reads_fault c.args.limit bytes before s _ _ (within d) (at_fault bytes c.loop-rest.rest.now n before s line c.next_line.result.1.now c.loop-rest.invariant.0 (c.next_line.ensures.cut (omega arith)) _ bad) told;
+      reads = reads_fault c.args.limit bytes before s _ _ (within d) (at_fault (lines bytes) _ n before s line _ c.loop-i.invariant.1 c.in-Some.ensures.steps.0 _ bad) told;
       outgrown = λ wants. absurd (not_short line n _ _ _ bad (sym (ap short told) ∙ wants));
     }
 
-pub returns-in_err-append : goal.returns-in_err-append
-returns-in_err-append c =
-    let p = err_from_is_err_and c.from_residual-in_err-append.result c.from_residual-in_err-append.ensures.1 in
-    let d = (goal.at.returns-in_err-append c).After-read_line in
-    let h = c.in_err-append.ensures.stored in
-    let s = lists c.loop-rest.points c.loop-rest.triangles in
+pub loop-i-preserved : goal.loop-i-preserved
+loop-i-preserved c =
+    let d = (goal.at.loop-i-preserved c).After-entry in
+    let s = lists c.loop-i.points c.loop-i.triangles in
     let before = lists c.args.points.now c.args.triangles.now in
     let bytes = c.args.bytes.now in
-    let n = c.loop-rest.before + 1 in
-    let lost = at_short bytes c.loop-rest.rest.now n before s c.next_line.result.0.now c.next_line.result.1.now c.loop-rest.invariant.0 (c.next_line.ensures.cut (omega arith)) c.in_ok-entry.entry (entry d ∙ c.in_ok-entry.was) h.2 in
-    record {
-      reads = reads_short c.args.limit bytes before s _ _ n (c.loop-rest.invariant.0.pushed + 0) (within d) lost h.1 (p.1 ∙ ap Err (p.2 ∙ ap Line h.0));
-      outgrown = λ _. outgrown_before _ _ _ _ s _ c.loop-rest.invariant.2 c.loop-rest.invariant.3 h.1 c.in_err-append.ensures.outgrown;
-    }
-
-pub loop-rest-preserved : goal.loop-rest-preserved
-loop-rest-preserved c =
-    let d = (goal.at.loop-rest-preserved c).After-read_line in
-    let s = lists c.loop-rest.points c.loop-rest.triangles in
-    let before = lists c.args.points.now c.args.triangles.now in
-    let a = c.in_ok-append.ensures in (
-      after_line c.args.bytes.now c.loop-rest.rest.now (c.loop-rest.before + 1) before s c.next_line.result.0.now c.next_line.result.1.now c.loop-rest.invariant.0 (c.next_line.ensures.cut (omega arith)) c.in_ok-entry.entry _ (entry d ∙ c.in_ok-entry.was) a.stored,
-      omega (arith, c.next_line.ensures.shorter (omega arith)),
+    let it = c.next.new.self in
+    let a = c.in_ok-append.ensures in
+    let steps = c.in-Some.ensures.steps in
+    let more : it.count ≡ c.loop-i.i-iterator.count + 1 = steps.2 in
+    let few : it.count + length it.iter ≤ length bytes = omega (arith, more, ap length steps.0, c.loop-i.invariant.2) in
+    let room : length bytes < 2 ^ 64 = omega (arith, c.ranges.limit.fits) in (
+      ((tt, tt, inl (omega (arith, few, room))), tt),
+      after_line (lines bytes) _ (c.loop-i.i-iterator.count + 1) before s c.in-Some.line.now _ c.loop-i.invariant.1 steps.0 c.in_ok-entry.field-0 _ _ (entry d ∙ c.in_ok-entry.was) a.stored (ap (λ n. n + 1) more),
+      few,
       omega (arith, a.points_room),
       omega (arith, a.triangles_room),
     )
 
+pub returns-in_err-append : goal.returns-in_err-append
+returns-in_err-append c =
+    let p = err_from_is_err_and c.from_residual-in_err-append.result c.from_residual-in_err-append.ensures.1 in
+    let d = (goal.at.returns-in_err-append c).After-entry in
+    let h = c.in_err-append.ensures.stored in
+    let s = lists c.loop-i.points c.loop-i.triangles in
+    let before = lists c.args.points.now c.args.triangles.now in
+    let bytes = c.args.bytes.now in
+    let n = c.loop-i.i-iterator.count + 1 in
+    let line = ap (λ n. n + 1) c.in-Some.ensures.steps.1 in
+    let lost = at_short (lines bytes) _ n before s c.in-Some.line.now _ c.loop-i.invariant.1 c.in-Some.ensures.steps.0 c.in_ok-entry.field-0 (entry d ∙ c.in_ok-entry.was) h.2 in
+    record {
+      reads = reads_short c.args.limit bytes before s _ _ n (c.loop-i.invariant.1.pushed + 0) (within d) lost h.1 (p.1 ∙ ap Err (p.2 ∙ ap Line (h.0 ∙ ap Memory line)));
+      outgrown = λ _. outgrown_before _ _ _ _ s _ c.loop-i.invariant.3 c.loop-i.invariant.4 h.1 c.in_err-append.ensures.outgrown;
+    }
+
 pub returns : goal.returns
 returns c =
-    let fits : length c.args.bytes.now ≤ c.args.limit = omega arith in
+    let bytes = c.args.bytes.now in
+    let fits : length bytes ≤ c.args.limit = omega arith in
     let before = lists c.args.points.now c.args.triangles.now in
-    let s = lists c.loop-rest.points c.loop-rest.triangles in
+    let s = lists c.loop-i.points c.loop-i.triangles in
     record {
-      reads = reads_all _ _ _ _ _ (in_limit _ c.args.limit c.args.bytes.now before fits ∙ at_end c.args.bytes.now c.loop-rest.rest.now (c.loop-rest.before + 1) before s c.loop-rest.invariant.0 (omega arith));
-      outgrown = λ wants. let z : ◌≡◌ {A = ℕ} 0 1 = cc in absurd (omega arith);
+      reads = reads_all _ _ _ _ _ (in_limit _ c.args.limit bytes before fits ∙ at_end (lines bytes) _ (c.loop-i.i-iterator.count + 1) before s c.loop-i.invariant.1 c.in-None.ensures.steps.0.0);
+      outgrown = λ wants. absurd (true≢false (sym wants));
     }

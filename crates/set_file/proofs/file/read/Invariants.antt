@@ -1,14 +1,13 @@
 use Rattle.std.proofs.Common.{◌+◌, ◌≤◌, length, vec_capacity}
 use Rattle.set_file.specs.Files.{lists}
+use Rattle.set_file.specs.Parts.{lines}
 use Rattle.set_file.proofs.Readings.{Sofar}
 use Rattle.set_file.proofs.file.read.Given as goal
 
-abbrev pub invariant-loop-rest : goal.invariant-loop-rest
-invariant-loop-rest l =
-    Sofar l.bytes l.rest (l.before + 1) (lists l.initial.points l.initial.triangles) (lists l.points l.triangles)
-    × (l.before + length l.rest ≤ length l.bytes)
+abbrev pub invariant-loop-i : goal.invariant-loop-i
+invariant-loop-i l =
+    ((goal.iterator-loop-i).can_next l.i-iterator × (goal.iterator-loop-i).is_finite l.i-iterator)
+    × Sofar (lines l.bytes) l.i-iterator.iter (l.i-iterator.count + 1) (lists l.initial.points l.initial.triangles) (lists l.points l.triangles)
+    × (l.i-iterator.count + length l.i-iterator.iter ≤ length l.bytes)
     × (vec_capacity l.initial.points ≤ vec_capacity l.points)
     × (vec_capacity l.initial.triangles ≤ vec_capacity l.triangles)
-
-abbrev pub decreases-loop-rest : goal.decreases-loop-rest
-decreases-loop-rest l = length l.rest

@@ -1,24 +1,15 @@
-use Rattle.std.proofs.Common.{◌+◌, ◌*◌, ◌≤◌, get_or, drop, sym, ap, ◌∙◌, add-one, arith, false-eqb}
-use Rattle.std.proofs.lemmas.List.{at_drop_more, at_drop_all}
-use Rattle.set_file.specs.Numbers.{after}
-use Rattle.set_file.proofs.Numbers.{sized, after_digit, after_other, ten_pow}
+use Rattle.std.proofs.Common.{◌≡◌, Some, pos, ◌<◌, ◌≤◌, sym, ap, ◌∙◌, arith, false-eqb}
+use Rattle.std.proofs.lemmas.List.{at_drop_all}
+use Rattle.std.proofs.lemmas.Int.{ints}
+use Rattle.std.proofs.lemmas.Result.{Ok-from_Ok_iff}
+use Rattle.std.specs.Result.{result_ok}
+use Rattle.set_file.specs.Numbers.{after, plus, unsigned_of}
+use Rattle.set_file.proofs.Numbers.{sized, ten_pow}
 use Rattle.set_file.proofs.word.digits.Goals as goal
 
-pub returns-then-b-lt48 : goal.returns-then-b-lt48
-returns-then-b-lt48 c =
-    record {
-      value = sym (sized c.args.ds.now (omega (arith, false-eqb _ 0 c.if-is_empty.ensures)) (omega arith) ∙ sym c.loop-b.invariant.0 ∙ at_drop_more (after c.loop-b.n) c.args.ds.now c.loop-b.b-index 0 c.loop-b-test.true ∙ after_other c.loop-b.n (get_or c.args.ds.now c.loop-b.b-index 0) (drop (c.loop-b.b-index + 1) c.args.ds.now) c.then-b-lt48.either);
-      small = tt;
-    }
-
-pub loop-b-preserved : goal.loop-b-preserved
-loop-b-preserved c = (
-  ap (λ m. after (c.loop-b.n * 10 + m) (drop (c.loop-b.b-index + 1) c.args.ds.now)) c.from.ensures ∙ sym (after_digit c.loop-b.n (get_or c.args.ds.now c.loop-b.b-index 0) (drop (c.loop-b.b-index + 1) c.args.ds.now) (omega arith) (omega arith)) ∙ sym (at_drop_more (after c.loop-b.n) c.args.ds.now c.loop-b.b-index 0 c.loop-b-test.true) ∙ c.loop-b.invariant.0,
-  rw add-one (omega arith),
-)
-
-pub returns : goal.returns
-returns c = record {
-  value = sym (sized c.args.ds.now (omega (arith, false-eqb _ 0 c.if-is_empty.ensures)) (omega arith) ∙ sym c.loop-b.invariant.0 ∙ at_drop_all (after c.loop-b.n) c.args.ds.now c.loop-b.b-index (omega arith));
-  small = let few : c.loop-b.b-index ≤ 5 = omega arith in omega (arith, ten_pow _ few);
-}
+pub returns-clause-value : goal.returns-clause-value
+returns-clause-value c =
+    let few : c.loop-b.b-index ≤ 5 = omega arith in
+    let small : c.loop-b.n < 100000 = omega (arith, ten_pow _ few) in
+    let whole : Some c.loop-b.n ≡ unsigned_of c.args.ds.now = sym (sized c.args.ds.now (omega (arith, false-eqb _ 0 c.if-is_empty.ensures)) (omega arith) ∙ sym c.loop-b.invariant.0 ∙ at_drop_all (after c.loop-b.n) c.args.ds.now c.loop-b.b-index (omega arith)) in
+    c.ok.ensures.value ∙ ap result_ok (Ok-from_Ok_iff c.try_from.result _ (pos c.loop-b.n) c.try_from.ensures (omega (arith, ints))) ∙ ap plus whole
