@@ -180,12 +180,13 @@ fn lists_are_appended(rt: HostRuntime) -> Result<(), Fail> {
         &mut triangles,
     );
     assert_eq!(rt; told(answer), refused(3, 4, 0));
-    assert!(rt; points.len() == 3);
-    assert_eq!(rt; points[0], Point { x: 7, y: 8, z: 9 });
-    assert_eq!(rt; points[1], Point { x: 1, y: 2, z: 3 });
-    assert_eq!(rt; points[2], Point { x: -4, y: 5, z: -6 });
-    assert!(rt; triangles.len() == 2);
-    assert_eq!(rt; triangles[0], Triangle { a: 5, b: 6, c: 7 });
-    assert_eq!(rt; triangles[1], Triangle { a: 2, b: 0, c: 1 });
+    let held = [
+        Point { x: 7, y: 8, z: 9 },
+        Point { x: 1, y: 2, z: 3 },
+        Point { x: -4, y: 5, z: -6 },
+    ];
+    assert_eq!(rt; &points[..], &held[..]);
+    let held = [Triangle { a: 5, b: 6, c: 7 }, Triangle { a: 2, b: 0, c: 1 }];
+    assert_eq!(rt; &triangles[..], &held[..]);
     Ok(())
 }
