@@ -4,7 +4,7 @@ ghost use Rattle.std.specs.Fmt.{padded};
 ghost use Rattle.std.specs.List.Sorted.{IsPermutation};
 ghost use Rattle.mesh.specs.Stored.{stored, stored_fits};
 ghost use Rattle.mesh_counts.specs.Edges.{edges_of};
-ghost use Rattle.pairing_cost.specs.Order.{order_name};
+ghost use Rattle.pairing_cost.specs.Table.{order_name, line_text};
 ghost use Rattle.meshes.specs.declared.refusal.MeshRefusal.{MeshRefusal};
 
 use crate::floor::Floor;
@@ -107,6 +107,8 @@ impl Line {
 
 // The line without its time, which no two runs share.
 impl fmt::Display for Line {
+    ghost output = { λ line. Some (line_text line.triangles line.order line.edges) };
+
     fn fmt<W: fmt::Write>(&self, f: &mut fmt::Formatter<W>) -> fmt::Result {
         write!(
             f,
