@@ -6,7 +6,8 @@ ghost use Rattle.mesh.specs.Stored.{near as is_near, sound as is_sound, corner_o
 
 use mesh::{ENTRY_LIMIT, Point, Triangle, in_limits, next, triangle_of};
 
-// They are looked at once, when this is made, so that nothing that is done with them has to ask again.
+// They are looked at once, when this is made, so that nothing that is done with them has to ask again. How
+// many there are follows from `fits`, and is what the arithmetic needs.
 #[derive(Clone, Copy)]
 pub(crate) struct FittingSet<'a> {
     pub(crate) points: &'a [Point],
@@ -74,6 +75,7 @@ impl<'a> FittingSet<'a> {
         ensures triangles { IfSome result (λ set. set.triangles.now ≡ triangles.now) }
         ensures places { IfSome result (λ set. length twins.now ≡ 3 * length set.triangles.now) }
     {
+        // An `if`, since a closure for `then` would need clauses of its own for the ghost fields.
         if fit(points, triangles) && twins.len() == 3 * triangles.len() {
             Some(FittingSet { points, triangles })
         } else {

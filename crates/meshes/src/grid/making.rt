@@ -46,6 +46,7 @@ impl<'a> DepthGrid<'a> {
         ensures fits { is_some result ≡ grid_fits columns rows pitch readings.now }
         ensures means { IfSome result (λ mesh. grid_of mesh ≡ grid columns rows pitch readings.now) }
     {
+        // An `if`, since a closure for `then` would need clauses of its own for the ghost fields.
         if fits(columns, rows, pitch, readings) {
             Some(DepthGrid {
                 columns,

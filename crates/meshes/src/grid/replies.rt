@@ -73,6 +73,7 @@ impl<'a> Mesh for DepthGrid<'a> {
     }
 
     fn place(&self, p: u32) -> Point {
+        // A `match`: the chain of `map` and `unwrap_or_default` is no shorter, and needs a lemma for its proof.
         match self.readings.get(p as usize) {
             Some(&reading) => lifted(p % self.columns, p / self.columns, self.pitch, reading),
             None => Point::default(),
@@ -83,6 +84,7 @@ impl<'a> Mesh for DepthGrid<'a> {
         if !self.present(triangle_of(h)) {
             return None;
         }
+        // A guard and a `?`, since a closure for `filter` that asks `present` of the mesh itself tells the proof nothing.
         let g = self.side(h).across()?;
         self.present(triangle_of(g)).then_some(g)
     }

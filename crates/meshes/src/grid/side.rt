@@ -21,6 +21,7 @@ impl Side {
         ensures { result ≡ corner_of self.now.cells self.now.cell self.now.side }
     {
         let width = self.cells + 1;
+        // The cell's own first corner; the one below it is a row of points on.
         let first = self.cell / self.cells * width + self.cell % self.cells;
         match self.side {
             0 => first,

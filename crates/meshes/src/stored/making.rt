@@ -52,6 +52,7 @@ impl<'a> StoredMesh<'a> {
         ensures means { IfSome result (λ mesh. stored_of mesh ≡ stored points.now triangles.now twins.now) }
     {
         let set = FittingSet::new(points, triangles, twins)?;
+        // An `if`, since a closure for `then` would need clauses of its own for the ghost fields.
         if set.twins_stand(twins) {
             Some(StoredMesh { set, twins })
         } else {
