@@ -53,23 +53,23 @@ abbrev pub made : {T : Type 0} → Result T LineFault → (T → Result Entry Li
 made (Ok t) k = k t
 made (Err f) k = Err f
 
--- the point of three coordinates, after so many
-abbrev pub point_of : ℕ → ℕ → ℤ × ℤ × ℤ → Result Entry LineFault
-point_of n points t = cond (nat_lt points 65536) (Ok (Vertex (record { x = t.0; y = t.1; z = t.2 }))) (Err (Full n))
+-- the entry of three coordinates, after so many points
+abbrev pub vertex_entry : ℕ → ℕ → ℤ × ℤ × ℤ → Result Entry LineFault
+vertex_entry n points t = cond (nat_lt points 65536) (Ok (Vertex (record { x = t.0; y = t.1; z = t.2 }))) (Err (Full n))
 
--- the triangle of three corners, after so many
-abbrev pub triangle_of : ℕ → ℕ → ℕ × ℕ × ℕ → Result Entry LineFault
-triangle_of n triangles t =
+-- the entry of three corners, after so many triangles
+abbrev pub face_entry : ℕ → ℕ → ℕ × ℕ × ℕ → Result Entry LineFault
+face_entry n triangles t =
     cond (t.0 == t.1 || (t.1 == t.2 || t.2 == t.0)) (Err (Same n))
     (cond (nat_lt triangles 65536) (Ok (Face (record { a = t.0; b = t.1; c = t.2 }))) (Err (Full n)))
 
 -- `v x y z`, after so many points
 abbrev pub vertex_of : List (List ℕ) → ℕ → ℕ → Result Entry LineFault
-vertex_of ws n points = made (triple coordinate_of n (three_of ws)) (point_of n points)
+vertex_of ws n points = made (triple coordinate_of n (three_of ws)) (vertex_entry n points)
 
 -- `f a b c`, after so many points and triangles
 abbrev pub face_of : List (List ℕ) → ℕ → ℕ → ℕ → Result Entry LineFault
-face_of ws n points triangles = made (triple (λ word at. corner_of word points at) n (three_of ws)) (triangle_of n triangles)
+face_of ws n points triangles = made (triple (λ word at. corner_of word points at) n (three_of ws)) (face_entry n triangles)
 
 -- a line by the one byte of its first word: `v` is 118, `f` is 102
 abbrev pub by_key : ℕ → List (List ℕ) → ℕ → ℕ → ℕ → Result Entry LineFault
