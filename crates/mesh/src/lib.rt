@@ -12,7 +12,7 @@ pub use interface::Mesh;
 pub use laws::{mesh_examples, mesh_laws};
 pub use limits::{COORDINATE_LIMIT, ENTRY_LIMIT, PAST_HALF_EDGES, in_limits};
 
-// In a twin list: no twin.
+// In a twin list: no twin. By rule a twin list is a lent list of 32-bit numbers, so it holds no `Option`.
 pub const NO_TWIN: u32 = 4_294_967_295;
 
 // A place, in whole centimetres; by default the origin.

@@ -20,6 +20,7 @@ fn mark_all<M: Mesh>(mesh: &M, used: &mut [bool])
     ensures { used.new ≡ used_below (M.Mesh.meaning mesh.now) (3 * (M.Mesh.meaning mesh.now).triangles) }
 {
     used.fill(false);
+    // A `for`, since each turn writes into the marks.
     for h in 0..3 * mesh.triangles() {
         mark(mesh, h, used);
     }

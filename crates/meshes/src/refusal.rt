@@ -15,7 +15,7 @@ pub enum MeshRefusal {
 }
 
 impl MeshRefusal {
-    // The number of the question.
+    // The number of the question: by rule every refusal has one.
     pub fn number(self) -> u32
         ensures { result ≡ number_of self }
     {

@@ -52,6 +52,7 @@ fn shuffle(triangles: &mut [Triangle])
     ensures { IsPermutation triangles.old triangles.new }
 {
     let mut state: u64 = 1;
+    // A `for`, since an exchange needs both places.
     for i in 1..triangles.len() {
         state = state
             .wrapping_mul(6364136223846793005)

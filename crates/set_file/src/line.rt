@@ -156,10 +156,10 @@ impl Before {
     fn keyed(self, word: &[u8], rest: Words) -> Result<Entry, LineFault>
         ensures { result ≡ keyed_of word.now rest.entry self.line self.points self.triangles }
     {
-        if word.len() != 1 {
+        let &[key] = word else {
             return Err(LineFault::First(self.line));
-        }
-        match char::from(word[0]) {
+        };
+        match char::from(key) {
             'v' => self.vertex(rest),
             'f' => self.face(rest),
             _ => Err(LineFault::First(self.line)),

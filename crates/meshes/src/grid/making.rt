@@ -1,4 +1,4 @@
-// A depth grid is made by filling one that the caller holds.
+// A depth grid is made by filling one that the caller holds, by rule; so `fill` and `new` take all that a grid has.
 ghost use Rattle.std.specs.Prelude.{◌≡◌, false, [], ◌∷◌, if◌then◌else◌, is_some, IfSome, Ok, Err};
 ghost use Rattle.std.specs.List.{list_all};
 ghost use Rattle.mesh.specs.Grid.{grid, grid_fits, small};

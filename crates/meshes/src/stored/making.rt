@@ -1,4 +1,4 @@
-// A stored mesh is made by filling one that the caller holds.
+// A stored mesh is made by filling one that the caller holds, by rule; so `fill` and `new` take all that a mesh has.
 ghost use Rattle.std.specs.Prelude.{◌≡◌, ◌*◌, false, [], length, if◌then◌else◌, is_some, IfSome, Ok, Err};
 ghost use Rattle.mesh.specs.Every.{every_below};
 ghost use Rattle.mesh.specs.Stored.{stored, stored_fits, answered as is_answered, twin_kept};

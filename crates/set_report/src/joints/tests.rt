@@ -4,6 +4,7 @@ use mesh::{Point, Triangle};
 use mesh_counts::Edges;
 use std::test::Fail;
 
+// A test of its own crate, so the square stands here once more.
 const SQUARE: [Point; 5] = [
     Point { x: 0, y: 0, z: 0 },
     Point { x: 100, y: 0, z: 0 },
