@@ -1,5 +1,5 @@
 // The words of a line.
-ghost use Rattle.std.specs.Prelude.{◌≡◌, ℕ, Bool, List, true, cond, take, drop};
+ghost use Rattle.std.specs.Prelude.{◌≡◌, ℕ, Bool, List, cond, take, drop};
 ghost use Rattle.std.specs.List.{position_or_len};
 ghost use Rattle.std.specs.Iterator.{YieldsFirstRef, item_count};
 ghost use Rattle.set_file.specs.Parts.{Tests, blank, words};
@@ -36,7 +36,7 @@ fn is_blank(b: u8) -> bool
 }
 
 // The bytes before the first that ends them, and those from it on.
-pub fn cut<'a, F: Fn(u8) -> bool>(bytes: &'a [u8], ends: F) -> (&'a [u8], &'a [u8])
+pub(crate) fn cut<'a, F: Fn(u8) -> bool>(bytes: &'a [u8], ends: F) -> (&'a [u8], &'a [u8])
     requires { F.IsAlwaysCallable ends }
     ensures front { (p : ℕ → Bool) → Tests F.Fn ends p → result.0.now ≡ take (position_or_len p bytes.now) bytes.now }
     ensures back { (p : ℕ → Bool) → Tests F.Fn ends p → result.1.now ≡ drop (position_or_len p bytes.now) bytes.now }
