@@ -1,5 +1,5 @@
 // A line, and the entry that it adds.
-ghost use Rattle.std.specs.Prelude.{◌≡◌, ℕ, List, Ok, Result};
+ghost use Rattle.std.specs.Prelude.{◌≡◌, ℕ, List, Result};
 ghost use Rattle.set_file.specs.declared.word.Place.{Place};
 ghost use Rattle.set_file.specs.declared.word.WordFault.{WordFault};
 ghost use Rattle.std.specs.Iterator.{YieldsFirstRef, item_count};

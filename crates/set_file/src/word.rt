@@ -1,5 +1,5 @@
 // A word that stands for a number.
-ghost use Rattle.std.specs.Prelude.{◌≡◌, ℕ, ◌<◌, ℤ, pos, negsuc, ◌≤ℤ◌, IfSome, Option};
+ghost use Rattle.std.specs.Prelude.{◌≡◌, ℕ, ℤ, pos, negsuc, ◌≤ℤ◌, IfSome, Option};
 ghost use Rattle.set_file.specs.Numbers.{unsigned_of, plus, number_of, Converts, converted, coordinate_of, corner_of};
 
 use mesh::in_limits;
@@ -47,7 +47,7 @@ fn number(word: &[u8]) -> Option<i32>
     }
 }
 
-// The number that a word writes, as `convert` takes it.
+// What `convert` makes of the number that a word writes.
 fn converted<T, F: FnOnce(i32) -> Option<T>>(
     word: &[u8],
     at: Place,
