@@ -45,7 +45,8 @@ pub(crate) fn cut<'a, F: Fn(u8) -> bool>(bytes: &'a [u8], ends: F) -> (&'a [u8],
     bytes.split_at(size)
 }
 
-// The words of a line, from the front on: in contracts the list of those that are left.
+// The words of a line, from the front on: in contracts the list of those that are left. Apart from `Lines`, since words
+// leave out what parts them, and a line may be empty.
 #[derive(Debug, Drop)]
 pub struct Words<'a>(&'a [u8]);
 
