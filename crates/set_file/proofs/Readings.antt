@@ -1,5 +1,5 @@
 -- A reading, line by line: what the lines so far have done, and what the next one does. Assumes nothing.
-use Rattle.std.proofs.Common.{◌≡◌, ℕ, ◌+◌, ◌≤◌, true, List, [], ◌∷◌, length, Some, None, Ok, Err, Option, Result, sym, refl, ap, ◌∙◌, inl, inr, add_assoc, zero-add, one-add, arith}
+use Rattle.std.proofs.Common.{◌≡◌, ℕ, ◌+◌, ◌≤◌, true, List, ◌∷◌, length, Some, None, Ok, Err, Option, Result, sym, refl, ap, ◌∙◌, add_assoc, zero-add, one-add}
 use Rattle.std.proofs.lemmas.Bool.{cond-true, le-leb, true≢false}
 use Rattle.set_file.specs.declared.line.Entry.{Entry}
 use Rattle.set_file.specs.declared.line.LineFault.{LineFault}
@@ -7,7 +7,7 @@ use Rattle.set_file.specs.declared.line.LineFault.TheVariants.{Memory}
 use Rattle.set_file.specs.declared.file.FileFault.{FileFault}
 use Rattle.set_file.specs.declared.file.FileFault.TheVariants.{Line}
 use Rattle.set_file.specs.Parts.{lines}
-use Rattle.set_file.specs.Files.{Lists, MemoryFor, all, only, stopped, with_entry, one_less, spend, or_short, enter, entry_at, read_lines, reading, Reads, Outgrown, short}
+use Rattle.set_file.specs.Files.{Lists, MemoryFor, all, only, stopped, with_entry, one_less, spend, or_short, enter, entry_at, read_lines, reading, Reads, short}
 
 -- how many pushes a line takes
 abbrev pub cost : Option Entry → ℕ
@@ -33,10 +33,6 @@ module _ (m : MemoryFor) (line : List ℕ) (ls : List (List ℕ)) (n : ℕ) (s :
   -- a line that found no memory
   pub no_memory : (e : Option Entry) → entry_at line n s ≡ Ok e → spend e m ≡ None → read_lines m (line ∷ ls) n s ≡ stopped s (Line (Memory n))
   no_memory e h p = entered (Ok e) h ∙ ap (λ o. or_short o n s (λ j. read_lines j ls (n + 1) (with_entry e s))) p
-
-  -- a bad line
-  pub bad_line : (f : LineFault) → entry_at line n s ≡ Err f → read_lines m (line ∷ ls) n s ≡ stopped s (Line f)
-  bad_line f h = entered (Err f) h
 
 -- The lines before `rest`, of which the first is line n, took the lists from `before` to `held`:
 -- what is left gives the whole, with memory for all and with memory for some.
@@ -71,26 +67,12 @@ module _ (whole rest : List (List ℕ)) (n : ℕ) (before held : Lists) (line : 
         ∙ (λ i. read_lines all after (sym q i) (sym p i));
   }
 
-  pub at_fault : (f : LineFault) → entry_at line n held ≡ Err f → read_lines all whole 1 before ≡ stopped held (Line f)
-  at_fault f h = so.unlimited ∙ here all ∙ bad_line all line after n held f h
-
   pub at_short : (e : Option Entry) → entry_at line n held ≡ Ok e → spend e (only 0) ≡ None → read_lines (only (so.pushed + 0)) whole 1 before ≡ stopped held (Line (Memory n))
   at_short e h p = so.limited 0 ∙ here (only 0) ∙ no_memory (only 0) line after n held e h p
-
-pub at_end : (whole rest : List (List ℕ)) (n : ℕ) (before held : Lists) → Sofar whole rest n before held → rest ≡ [] → read_lines all whole 1 before ≡ record { held = held; answer = Ok tt }
-at_end whole rest n before held so h = so.unlimited ∙ ap (λ ls. read_lines all ls n held) h
 
 -- a file within the limit is its lines
 pub in_limit : (m : MemoryFor) (limit : ℕ) (bytes : List ℕ) (s : Lists) → length bytes ≤ limit → reading m limit bytes s ≡ read_lines m (lines bytes) 1 s
 in_limit m limit bytes s h = cond-true _ _ _ (le-leb (length bytes) limit h)
-
--- a reading with memory for all serves whatever the answer
-pub reads_all : (limit : ℕ) (bytes : List ℕ) (before after : Lists) (r : Result (Unit {0}) FileFault) → reading all limit bytes before ≡ record { held = after; answer = r } → Reads limit bytes before after r
-reads_all limit bytes before after r e = record { memory = all; result = e; whole = λ _. e }
-
--- a fault of a line
-pub reads_fault : (limit : ℕ) (bytes : List ℕ) (before held : Lists) (r : Result (Unit {0}) FileFault) (f : FileFault) → length bytes ≤ limit → read_lines all (lines bytes) 1 before ≡ stopped held f → r ≡ Err f → Reads limit bytes before held r
-reads_fault limit bytes before held r f h e t = reads_all limit bytes before held r (in_limit all limit bytes before h ∙ e ∙ ap (λ (a : Result (Unit {0}) FileFault). record { held = held; answer = a }) (sym t))
 
 -- want of memory
 pub reads_short : (limit : ℕ) (bytes : List ℕ) (before held after : Lists) (r : Result (Unit {0}) FileFault) (n k : ℕ) → length bytes ≤ limit → read_lines (only k) (lines bytes) 1 before ≡ stopped held (Line (Memory n)) → after ≡ held → r ≡ Err (Line (Memory n)) → Reads limit bytes before after r
@@ -99,8 +81,3 @@ reads_short limit bytes before held after r n k h e a t = record {
   result = in_limit (only k) limit bytes before h ∙ e ∙ (λ i. record { held = sym a i; answer = sym t i });
   whole = λ known. let lost : short r ≡ true = ap short t in absurd (true≢false (sym lost ∙ known));
 }
-
--- a list whose memory was outgrown then had no more in the beginning
-pub outgrown_before : (p q t u : ℕ) (s held : Lists) → p ≤ q → t ≤ u → held ≡ s → Outgrown q u s → Outgrown p t held
-outgrown_before p q t u s held h k e (inl x) = inl (omega (arith, ap (λ (l : Lists). length l.points) e))
-outgrown_before p q t u s held h k e (inr x) = inr (omega (arith, ap (λ (l : Lists). length l.triangles) e))

@@ -6,9 +6,8 @@ use Rattle.set_file.specs.Parts.{lines, ends}
 use Rattle.set_file.specs.Files.{lists, entry_at, short}
 use Rattle.set_file.proofs.Cuts.{few_pieces}
 use Rattle.set_file.proofs.Blame.{not_short}
-use Rattle.std.proofs.lemmas.Bool.{true≢false}
 use Rattle.set_file.specs.declared.line.LineFault.TheVariants.{Memory}
-use Rattle.set_file.proofs.Readings.{at_start, after_line, at_fault, at_short, at_end, in_limit, reads_all, reads_fault, reads_short, outgrown_before}
+use Rattle.set_file.proofs.Readings.{at_start, after_line, at_short, reads_short}
 use Rattle.set_file.proofs.file.read.Goals as goal
 use Rattle.set_file.proofs.file.read.Goals.{After-entry}
 
@@ -33,21 +32,12 @@ loop-i-init c =
     let room : length bytes < 2 ^ 64 = omega (arith, c.ranges.limit.fits) in
     (((tt, tt, inl (omega (arith, few, room))), tt), at_start (lines bytes) _ _ _ rest (omega (arith, none)), few, omega arith, omega arith)
 
-pub returns-in_err-entry : goal.returns-in_err-entry
-returns-in_err-entry c =
+pub returns-in_err-entry-clause-outgrown : goal.returns-in_err-entry-clause-outgrown
+returns-in_err-entry-clause-outgrown c wants =
     let p = err_from_is_err_and c.from_residual.result c.from_residual.ensures.1 in
-    let d = (goal.at.returns-in_err-entry c).After-entry in
-    let s = lists c.loop-i.points c.loop-i.triangles in
-    let before = lists c.args.points.now c.args.triangles.now in
-    let bytes = c.args.bytes.now in
-    let line = c.in-Some.line.now in
-    let n = c.loop-i.i-iterator.count + 1 in
+    let d = (goal.at.returns-in_err-entry-clause-outgrown c).After-entry in
     let bad = entry d ∙ c.in_err-entry.was in
-    let told = p.1 ∙ ap Err p.2 in
-    record {
-      reads = reads_fault c.args.limit bytes before s _ _ (within d) (at_fault (lines bytes) _ n before s line _ c.loop-i.invariant.1 c.in-Some.ensures.steps.0 _ bad) told;
-      outgrown = λ wants. absurd (not_short line n _ _ _ bad (sym (ap short told) ∙ wants));
-    }
+    absurd (not_short c.in-Some.line.now (c.loop-i.i-iterator.count + 1) _ _ _ bad (sym (ap short (p.1 ∙ ap Err p.2)) ∙ wants))
 
 pub loop-i-preserved : goal.loop-i-preserved
 loop-i-preserved c =
@@ -68,10 +58,10 @@ loop-i-preserved c =
       omega (arith, a.triangles_room),
     )
 
-pub returns-in_err-append : goal.returns-in_err-append
-returns-in_err-append c =
+pub returns-in_err-append-clause-reads : goal.returns-in_err-append-clause-reads
+returns-in_err-append-clause-reads c =
     let p = err_from_is_err_and c.from_residual-in_err-append.result c.from_residual-in_err-append.ensures.1 in
-    let d = (goal.at.returns-in_err-append c).After-entry in
+    let d = (goal.at.returns-in_err-append-clause-reads c).After-entry in
     let h = c.in_err-append.ensures.stored in
     let s = lists c.loop-i.points c.loop-i.triangles in
     let before = lists c.args.points.now c.args.triangles.now in
@@ -79,18 +69,4 @@ returns-in_err-append c =
     let n = c.loop-i.i-iterator.count + 1 in
     let line = ap (λ n. n + 1) c.in-Some.ensures.steps.1 in
     let lost = at_short (lines bytes) _ n before s c.in-Some.line.now _ c.loop-i.invariant.1 c.in-Some.ensures.steps.0 c.in_ok-entry.field-0 (entry d ∙ c.in_ok-entry.was) h.2 in
-    record {
-      reads = reads_short c.args.limit bytes before s _ _ n (c.loop-i.invariant.1.pushed + 0) (within d) lost h.1 (p.1 ∙ ap Err (p.2 ∙ ap Line (h.0 ∙ ap Memory line)));
-      outgrown = λ _. outgrown_before _ _ _ _ s _ c.loop-i.invariant.3 c.loop-i.invariant.4 h.1 c.in_err-append.ensures.outgrown;
-    }
-
-pub returns : goal.returns
-returns c =
-    let bytes = c.args.bytes.now in
-    let fits : length bytes ≤ c.args.limit = omega arith in
-    let before = lists c.args.points.now c.args.triangles.now in
-    let s = lists c.loop-i.points c.loop-i.triangles in
-    record {
-      reads = reads_all _ _ _ _ _ (in_limit _ c.args.limit bytes before fits ∙ at_end (lines bytes) _ (c.loop-i.i-iterator.count + 1) before s c.loop-i.invariant.1 c.in-None.ensures.steps.0.0);
-      outgrown = λ wants. absurd (true≢false (sym wants));
-    }
+    reads_short c.args.limit bytes before s _ _ n (c.loop-i.invariant.1.pushed + 0) (within d) lost h.1 (p.1 ∙ ap Err (p.2 ∙ ap Line (h.0 ∙ ap Memory line)))
