@@ -153,7 +153,7 @@ fn sizes(rt: HostRuntime) -> Result<(), Fail> {
 
 #[test]
 fn full_lists(rt: HostRuntime) -> Result<(), Fail> {
-    let mut points = vec![in rt.alloc(); Point { x: 0, y: 0, z: 0 }; 65535]?;
+    let mut points = vec![in rt.alloc(); Point::default(); 65535]?;
     let mut triangles = vec![in rt.alloc(); Triangle { a: 0, b: 1, c: 2 }; 65535]?;
     let answer = read(
         b"v 1 2 3\nf 1 2 65536\nf 2 1 3",

@@ -10,7 +10,7 @@ use Rattle.std.proofs.lemmas.Nat.{div-add-mod', mul-le, mul-add-lt, div-mul-add,
 use Rattle.mesh.specs.HalfEdges.{next}
 use Rattle.mesh.specs.Model.{Lawful, Near, end_of, origin}
 use Rattle.std.specs.List.{list_all}
-use Rattle.mesh.specs.Grid.{point, corner_at, corner, grid_start, upper, left, right, at_side, across, grid_triangles, grid_present, at_place, grid_place, when_present, grid, small, within, grid_fits, cell, Cells}
+use Rattle.mesh.specs.Grid.{point, corner_at, corner, grid_start, upper, left, right, at_side, across, grid_triangles, grid_present, at_place, grid_place, when_present, grid, small, within, grid_fits, Limits, cell, Cells}
 
 -- rows and columns of the cells beside a cell
 module _ (V : ℕ) (some : 0 < V) where
@@ -192,18 +192,6 @@ small_at xs e p = elim (cases_lt p (length xs)) [
 
 within_parts : (low high n : ℕ) → within low high n ≡ true → (low ≤ n) × (n ≤ high)
 within_parts low high n e = (grind (arith, nat_tests), grind (arith, nat_tests))
-
--- what the settings and readings of a grid keep
-pub record Limits (W H s : ℕ) (readings : List ℕ) : Type 0 where
-  pub wide : 2 ≤ W
-  pub narrow : W ≤ 181
-  pub tall : 2 ≤ H
-  pub low : H ≤ 181
-  pub close : s ≤ 55
-  pub cells : (W - 1) * (H - 1) ≤ 32400
-  pub places : W * H ≤ 32761
-  pub many : length readings ≡ W * H
-  pub small : (p : ℕ) → get_or readings p 0 ≤ 10000
 
 pub limits : (W H s : ℕ) (readings : List ℕ) → grid_fits W H s readings ≡ true → Limits W H s readings
 unfolding grid_fits

@@ -1,5 +1,5 @@
 -- What a depth grid means, and which settings make one. Assumes nothing.
-use Rattle.std.specs.Prelude.{◌≡◌, ℕ, zero, suc, ◌+◌, ◌-◌, ◌*◌, ◌/◌, ◌%◌, ◌<◌, Bool, cond, not, ◌&&◌, List, length, pos, Some, None, Option, ◌==◌, nat_le, nat_lt, slice_index}
+use Rattle.std.specs.Prelude.{◌≡◌, ℕ, zero, suc, ◌+◌, ◌-◌, ◌*◌, ◌/◌, ◌%◌, ◌<◌, ◌≤◌, Bool, cond, not, ◌&&◌, List, length, pos, Some, None, Option, ◌==◌, nat_le, nat_lt, slice_index}
 use Rattle.mesh.specs.declared.Point.{Point}
 use Rattle.mesh.specs.HalfEdges.{triangle_of}
 use Rattle.mesh.specs.Model.{MeshModel, origin}
@@ -99,6 +99,18 @@ small reading = nat_le reading 10000
 -- the settings and the readings are in limits
 unfoldable pub grid_fits : ℕ → ℕ → ℕ → List ℕ → Bool
 grid_fits W H s readings = within 2 181 W && (within 2 181 H && (within 1 55 s && (length readings == W * H && list_all small readings)))
+
+-- what the settings and readings of such a grid keep
+pub record Limits (W H s : ℕ) (readings : List ℕ) : Type 0 where
+  pub wide : 2 ≤ W
+  pub narrow : W ≤ 181
+  pub tall : 2 ≤ H
+  pub low : H ≤ 181
+  pub close : s ≤ 55
+  pub cells : (W - 1) * (H - 1) ≤ 32400
+  pub places : W * H ≤ 32761
+  pub many : length readings ≡ W * H
+  pub small : (p : ℕ) → slice_index readings p ≤ 10000
 
 -- the number of the cell at a row and a column
 abbrev pub cell : ℕ → ℕ → ℕ → ℕ

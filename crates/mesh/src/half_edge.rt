@@ -1,4 +1,4 @@
-// Half-edges by their numbers: triangle t has 3t, 3t + 1 and 3t + 2.
+// Half-edges by their numbers, as the rules tell them: triangle t has 3t, 3t + 1 and 3t + 2.
 ghost use Rattle.std.specs.Prelude.{◌≡◌, min};
 ghost use Rattle.mesh.specs.HalfEdges.{triangle_of, next as next_of};
 ghost use Rattle.mesh.specs.Model.{end_of};

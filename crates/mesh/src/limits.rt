@@ -15,5 +15,5 @@ pub const PAST_HALF_EDGES: u32 = 196_608;
 pub fn in_limits(coordinate: i32) -> bool
     ensures { result ≡ in_limits coordinate }
 {
-    -COORDINATE_LIMIT <= coordinate && coordinate <= COORDINATE_LIMIT
+    (-COORDINATE_LIMIT..=COORDINATE_LIMIT).contains(&coordinate)
 }

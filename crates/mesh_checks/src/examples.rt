@@ -1,7 +1,6 @@
 // Small meshes, and lists and settings at the edge of what makes a mesh.
 use mesh::{Mesh, NO_TWIN, Point, Triangle, end_of, next};
 use meshes::{DepthGrid, MeshRefusal, Mirrored, StoredMesh, pair};
-use std::alloc::AllocGlobal;
 use std::fmt::Debug;
 use std::process::Abort;
 use std::test::Fail;
@@ -85,7 +84,7 @@ fn pairs(
 ) -> Result<(), Fail> {
     let mut twins = vec![in rt.alloc(); 7; paired.len()]?;
     assert_eq!(rt; pair(points, triangles, &mut twins), Ok(()));
-    assert_eq!(rt; twins.as_slice(), paired);
+    assert_eq!(rt; &twins[..], paired);
     makes(rt, points, triangles, paired);
     Ok(())
 }

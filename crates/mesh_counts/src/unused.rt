@@ -33,8 +33,8 @@ fn count_unmarked(used: &[bool]) -> u32
     used.iter().filter(|used| !**used).count() as u32
 }
 
-// How many points are no corner of a present triangle. It works in lent marks, one for each point, and says
-// none where these are too few.
+// How many points are no corner of a present triangle. It works in lent marks, one for each point, so that it wants
+// no memory, and says none where these are too few.
 pub fn count_unused<M: Mesh>(mesh: &M, marks: &mut [bool]) -> Option<u32>
     ensures says { result ≡ (if nat_le (M.Mesh.meaning mesh.now).points (length marks.old) then Some (unused_of (M.Mesh.meaning mesh.now)) else None) }
     ensures marks { marks.new ≡ (if nat_le (M.Mesh.meaning mesh.now).points (length marks.old) then used_below (M.Mesh.meaning mesh.now) (3 * (M.Mesh.meaning mesh.now).triangles) ++ drop (M.Mesh.meaning mesh.now).points marks.old else marks.old) }

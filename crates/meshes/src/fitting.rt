@@ -52,6 +52,7 @@ fn fit(points: &[Point], triangles: &[Triangle]) -> bool
         && all_sound(points.len() as u32, triangles)
 }
 
+// Corner `k`, by the number that the rules give it.
 fn corner(t: &Triangle, k: u32) -> u32
     ensures { result ≡ corner_of t.now k }
 {

@@ -4,8 +4,7 @@ pub mod replies;
 mod side;
 
 ghost use Rattle.std.specs.Prelude.{◌≡◌, true};
-ghost use Rattle.mesh.specs.Grid.{grid_fits};
-ghost use Rattle.mesh.proofs.GridRules.{Limits};
+ghost use Rattle.mesh.specs.Grid.{grid_fits, Limits};
 
 // The settings and the readings are in limits, so the mesh over them keeps the rules; `limits` says what follows.
 #[derive(Drop)]

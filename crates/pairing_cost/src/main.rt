@@ -9,14 +9,14 @@ use floor::Floor;
 use std::env;
 use table::{Line, Order};
 
-fn run(rt: &HostRuntime) -> anyhow::Result<()> {
-    let quick = env::args(rt)?.len() > 1;
+fn main(rt: HostRuntime) -> anyhow::Result<()> {
+    let quick = env::args(&rt)?.len() > 1;
     let all: &[Floor] = &[Floor::SMALL, Floor::MIDDLE, Floor::LARGE];
     let floors = if quick { &all[..2] } else { all };
     println!(rt; "triangles order    shared edges border edges")?;
     for &floor in floors {
         for order in [Order::Drawn, Order::Shuffled] {
-            let line = Line::of(rt, floor, order)?;
+            let line = Line::of(&rt, floor, order)?;
             if quick {
                 println!(rt; "{line}")?;
             } else {
@@ -25,8 +25,4 @@ fn run(rt: &HostRuntime) -> anyhow::Result<()> {
         }
     }
     Ok(())
-}
-
-fn main(rt: HostRuntime) -> anyhow::Result<()> {
-    run(&rt)
 }

@@ -1,5 +1,5 @@
 // A whole set file, into the caller's lists.
-ghost use Rattle.std.specs.Prelude.{◌≡◌, ℕ, ◌≤◌, true, vec_capacity, OnErr};
+ghost use Rattle.std.specs.Prelude.{◌≡◌, ◌≤◌, true, vec_capacity, OnErr};
 ghost use Rattle.set_file.specs.declared.file.FileFault.TheVariants.{Line};
 ghost use Rattle.set_file.specs.Files.{lists, short, Appended, Outgrown, Reads};
 ghost use Rattle.set_file.specs.Refusals.{refusal_of};
@@ -22,6 +22,7 @@ pub enum FileFault {
     Line(LineFault),
 }
 
+// By rule a line's fault goes into the file's by `From`.
 impl From<LineFault> for FileFault {
     ghost from_gives = { λ e r. r ≡ Line e };
 

@@ -73,6 +73,7 @@ pub enum LineFault {
     Memory(usize),
 }
 
+// By rule a word's fault goes into the line's by `From`, and that into the file's.
 impl From<WordFault> for LineFault {
     ghost from_gives = { λ e r. r ≡ Word e };
 
@@ -86,10 +87,7 @@ fn just_three<'a>(mut rest: Words<'a>) -> Option<(&'a [u8], &'a [u8], &'a [u8])>
     ensures { option_map trio result ≡ three_of rest.entry }
 {
     let three = (rest.next()?, rest.next()?, rest.next()?);
-    match rest.next() {
-        None => Some(three),
-        Some(_) => None,
-    }
+    rest.next().is_none().then_some(three)
 }
 
 // Where a line stands: its number, and how many points and triangles the lines before it gave.
@@ -159,6 +157,7 @@ impl Before {
         let &[key] = word else {
             return Err(LineFault::First(self.line));
         };
+        // Characters as cases, by rule.
         match char::from(key) {
             'v' => self.vertex(rest),
             'f' => self.face(rest),

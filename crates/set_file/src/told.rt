@@ -8,7 +8,7 @@ use crate::word::WordFault;
 use std::error::Error;
 use std::fmt;
 
-// The question that the fault answers with no.
+// The question that the fault answers with no, as the rules say it, numbers and all.
 impl fmt::Display for WordFault {
     ghost output = { λ fault. Some (word_question fault) };
 
@@ -28,7 +28,7 @@ impl fmt::Display for WordFault {
 
 impl Error for WordFault {}
 
-// The question that the fault answers with no.
+// The question that the fault answers with no, as the rules say it, numbers and all.
 impl fmt::Display for LineFault {
     ghost output = { λ fault. Some (line_question fault) };
 

@@ -1,5 +1,5 @@
 // A word that stands for a number.
-ghost use Rattle.std.specs.Prelude.{◌≡◌, ℕ, ℤ, pos, negsuc, ◌≤ℤ◌, IfSome, Option};
+ghost use Rattle.std.specs.Prelude.{◌≡◌, ℤ, pos, negsuc, ◌≤ℤ◌, IfSome, Option};
 ghost use Rattle.set_file.specs.Numbers.{unsigned_of, plus, number_of, Converts, converted, coordinate_of, corner_of};
 
 use mesh::in_limits;
@@ -21,7 +21,7 @@ pub enum WordFault {
 }
 
 // The number that one to five digits write.
-// It stays a loop: in a fold no clause could say that the number so far is small, and each step would need a check.
+// A loop, since in a fold no clause could say that the number so far is small, and each step would need a check.
 fn digits(ds: &[u8]) -> Option<i32>
     ensures value { result ≡ plus (unsigned_of ds.now) }
     ensures small { IfSome result (λ v. (pos 0 ≤ℤ v) × (v ≤ℤ pos 99999)) }
@@ -72,11 +72,7 @@ pub fn corner(word: &[u8], points: usize, at: Place) -> Result<u32, WordFault>
     ensures { result ≡ corner_of word.now points at }
 {
     converted(word, at, |v| {
-        let n = usize::try_from(v).ok()?.checked_sub(1)?;
-        if n < points {
-            u32::try_from(n).ok()
-        } else {
-            None
-        }
+        let n = u32::try_from(v).ok()?.checked_sub(1)?;
+        ((n as usize) < points).then_some(n)
     })
 }

@@ -1,8 +1,8 @@
 // How the triangles of a set are joined. No report tells it yet: the test is the only caller.
-ghost use Rattle.std.specs.Prelude.{◌≡◌, true, length, IfOk};
-ghost use Rattle.mesh.specs.Stored.{set_fits, stored_fits, stored};
+ghost use Rattle.std.specs.Prelude.{◌≡◌, true, IfOk};
+ghost use Rattle.mesh.specs.Stored.{set_fits};
 ghost use Rattle.mesh.specs.Pairing.{pairing};
-ghost use Rattle.set_report.specs.Joints.{counts_of, joints_of};
+ghost use Rattle.set_report.specs.Joints.{joints_of};
 
 use mesh::{NO_TWIN, Point, Triangle};
 use mesh_counts::{Edges, count_edges, count_unused};

@@ -34,6 +34,7 @@ impl fmt::Display for ShownBytes<'_> {
     ghost output = { λ bytes. Some (shown_bytes bytes.0.now) };
 
     fn fmt<W: fmt::Write>(&self, f: &mut fmt::Formatter<W>) -> fmt::Result {
+        // A `for`, since each turn writes, and a closure that does so needs clauses of its own.
         for &b in self.0 {
             write!(f, "{}", ShownByte(b))?;
         }

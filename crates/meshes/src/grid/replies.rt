@@ -36,7 +36,7 @@ impl DepthGrid<'_> {
         }
     }
 
-    // Whether a point has a reading; 0 is none.
+    // Whether a point has a reading; by rule 0 is none.
     fn is_read(&self, p: u32) -> bool
         ensures { result ≡ is_read self.now.readings.now p }
     {

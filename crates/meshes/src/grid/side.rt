@@ -3,7 +3,7 @@
 ghost use Rattle.std.specs.Prelude.{◌≡◌, ◌<◌, ◌≤◌};
 ghost use Rattle.mesh.specs.Grid.{corner as corner_of, across as across_of};
 
-// Side `side` of cell `cell`, where a row has `cells` cells.
+// Side `side` of cell `cell`, by the numbers that the rules give them, where a row has `cells` cells.
 #[derive(Clone, Copy)]
 pub(super) struct Side {
     pub(super) cells: u32,
