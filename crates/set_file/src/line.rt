@@ -90,7 +90,7 @@ fn just_three<'a>(mut rest: Words<'a>) -> Option<(&'a [u8], &'a [u8], &'a [u8])>
     rest.next().is_none().then_some(three)
 }
 
-// Where a line stands: its number, and how many points and triangles the lines before it gave.
+// Where a line stands: its number, and how many points and triangles the lists hold before it.
 #[derive(Clone, Copy, Debug)]
 pub struct Before {
     pub line: usize,
