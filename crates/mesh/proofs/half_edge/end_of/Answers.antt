@@ -1,3 +1,4 @@
+-- Past every mesh a half-edge ends at 0.
 use Rattle.std.proofs.Common.{sym, arith}
 use Rattle.mesh.specs.HalfEdges.{next}
 use Rattle.mesh.proofs.Rules.{start_past}

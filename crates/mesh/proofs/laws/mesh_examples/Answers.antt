@@ -1,3 +1,4 @@
+-- The examples, by computation.
 use Rattle.std.proofs.Common.{refl}
 use Rattle.mesh.specs.Stored.{stored_start, set_fits, lists_fit, stored_fits}
 use Rattle.mesh.specs.Pairing.{mate, pair_one}

@@ -1,3 +1,4 @@
+-- The laws of meshes, each from its own file.
 use Rattle.mesh.proofs.Rules.{turns, twins_stand}
 use Rattle.mesh.proofs.StoredRules.{stored_lawful}
 use Rattle.mesh.proofs.GridRules.{grid_lawful, limits, cells}

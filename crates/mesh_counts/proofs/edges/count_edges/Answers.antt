@@ -1,3 +1,4 @@
+-- The counts stay small while they are folded, and the fold is the count.
 use Rattle.std.proofs.Common.{◌≡◌, ℕ, ◌+◌, ◌*◌, ◌<◌, ◌≤◌, length, refl, rules, arith, ap, ◌∙◌, length-append}
 use Rattle.std.specs.List.{fold, range_with_len}
 use Rattle.std.proofs.lemmas.Iterator.{YieldsList-from_range}

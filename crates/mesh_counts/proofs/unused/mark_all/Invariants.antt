@@ -1,3 +1,4 @@
+-- The marks so far are those of the half-edges so far.
 use Rattle.std.proofs.Common.{◌≡◌}
 use Rattle.mesh_counts.specs.Unused.{used_below}
 use Rattle.mesh_counts.proofs.unused.mark_all.Given as goal

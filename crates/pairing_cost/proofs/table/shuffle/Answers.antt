@@ -1,3 +1,4 @@
+-- An exchange more is a permutation still.
 use Rattle.std.proofs.lemmas.List.Sorted.{IsPermutation-trans}
 use Rattle.pairing_cost.proofs.table.shuffle.Goals as goal
 

@@ -1,3 +1,4 @@
+-- The triangles so far are a permutation of the first ones.
 use Rattle.std.specs.List.Sorted.{IsPermutation}
 use Rattle.pairing_cost.proofs.table.shuffle.Given as goal
 

@@ -1,3 +1,4 @@
+-- What a reading leaves after each line, and where it stops.
 use Rattle.std.proofs.Common.{◌≡◌, ◌+◌, ◌≤◌, ◌<◌, ◌^◌, length, Err, sym, ap, ◌∙◌, inl, arith}
 use Rattle.std.proofs.lemmas.Result.{err_from_is_err_and}
 use Rattle.set_file.specs.declared.file.FileFault.TheVariants.{Line}

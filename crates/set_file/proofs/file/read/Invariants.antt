@@ -1,3 +1,4 @@
+-- The lists are those of the lines so far, and have lost no memory.
 use Rattle.std.proofs.Common.{◌+◌, ◌≤◌, length, vec_capacity}
 use Rattle.set_file.specs.Files.{lists}
 use Rattle.set_file.specs.Parts.{lines}

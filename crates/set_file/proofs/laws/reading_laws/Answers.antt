@@ -1,3 +1,4 @@
+-- The laws of a reading, each from its own file.
 use Rattle.set_file.proofs.Meaning.{line_by_line, good_files, kept}
 use Rattle.set_file.proofs.Fitting.{fits_kept}
 use Rattle.set_file.proofs.Blame.{true_faults, told_faults}

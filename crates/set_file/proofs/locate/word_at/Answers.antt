@@ -1,3 +1,4 @@
+-- The word that the two iterators find is the one at the place.
 use Rattle.std.proofs.Common.{ap, sym, ◌∙◌, ◌≡◌, arith}
 use Rattle.std.proofs.lemmas.Iterator.Consumers.{nth_from_yields_List, YieldsList-from_first}
 use Rattle.std.specs.Option.{option_map}

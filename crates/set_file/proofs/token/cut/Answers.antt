@@ -1,3 +1,4 @@
+-- The cut is at the first byte that ends the bytes before it.
 use Rattle.std.proofs.Common.{◌≡◌, ℕ, length, Bool, take, drop, ap, ◌∙◌, rules, tests}
 use Rattle.std.specs.List.{position_or_len}
 use Rattle.std.specs.Option.{unwrap_or}

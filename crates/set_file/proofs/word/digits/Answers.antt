@@ -1,3 +1,4 @@
+-- The number so far is below a power of ten, and at the end it is the number that the digits write.
 use Rattle.std.proofs.Common.{◌≡◌, Some, pos, ◌<◌, ◌≤◌, sym, ap, ◌∙◌, arith, false-eqb}
 use Rattle.std.proofs.lemmas.List.{at_drop_all}
 use Rattle.std.proofs.lemmas.Int.{ints}

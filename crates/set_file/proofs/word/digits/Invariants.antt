@@ -1,3 +1,4 @@
+-- What is left goes on from the number so far, which is below a power of ten.
 use Rattle.std.proofs.Common.{◌≡◌, ◌^◌, ◌<◌, drop}
 use Rattle.set_file.specs.Numbers.{after}
 use Rattle.set_file.proofs.word.digits.Given as goal

@@ -1,3 +1,4 @@
+-- The fold is the box.
 use Rattle.std.proofs.Common.{rules}
 use Rattle.std.proofs.iter.runs.Made.{chains}
 use Rattle.set_report.proofs.Boxes.{grown}

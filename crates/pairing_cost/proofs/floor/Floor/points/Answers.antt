@@ -1,3 +1,4 @@
+-- The points that the chain gives are those of the floor, row by row.
 use Rattle.std.proofs.Common.{◌≡◌, ◌+◌, map, rules, arith}
 use Rattle.std.specs.List.{range_with_len}
 use Rattle.std.proofs.lemmas.Iterator.{YieldsList-from_range, YieldsList-from_map, items_from_collect}

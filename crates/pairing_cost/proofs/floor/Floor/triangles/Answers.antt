@@ -1,3 +1,4 @@
+-- One cell more, and one row more.
 use Rattle.std.proofs.Common.{◌≡◌, ◌+◌, ◌*◌, ◌++◌, append_assoc, ap, sym, ◌∙◌, rules, arith}
 use Rattle.pairing_cost.specs.Floor.{cell_halves, row_triangles, floor_triangles}
 use Rattle.pairing_cost.proofs.Rows.{one_more}

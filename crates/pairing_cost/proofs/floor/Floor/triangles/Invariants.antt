@@ -1,3 +1,4 @@
+-- The triangles so far are those of the rows and cells so far.
 use Rattle.std.proofs.Common.{◌≡◌, ◌++◌}
 use Rattle.pairing_cost.specs.Floor.{row_triangles, floor_triangles}
 use Rattle.pairing_cost.proofs.floor.Floor.triangles.Given as goal

@@ -1,3 +1,4 @@
+-- The next line is the first of those that are left.
 use Rattle.std.proofs.Common.{sym, ◌∙◌, ◌≡◌, drop, false-eqb, arith, rules, tests}
 use Rattle.set_file.specs.Parts.{ends}
 use Rattle.set_file.proofs.Cuts.{line_step, nearer, rest_of}

@@ -1,3 +1,4 @@
+-- The next word is the first of those that are left.
 use Rattle.std.proofs.Common.{refl, rules, tests}
 use Rattle.set_file.specs.Parts.{blank}
 use Rattle.set_file.proofs.Cuts.{except, given, nearer}

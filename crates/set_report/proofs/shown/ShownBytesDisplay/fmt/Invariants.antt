@@ -1,3 +1,4 @@
+-- What is written so far are the bytes so far, as they are shown.
 use Rattle.std.proofs.Common.{take}
 use Rattle.std.specs.Fmt.{HasWritten, IsPlainFormatter}
 use Rattle.set_report.specs.Shown.{shown_bytes}

@@ -1,3 +1,4 @@
+-- The limit is written in its seven digits.
 use Rattle.std.proofs.Common.{rules}
 use Rattle.std.specs.Fmt.{digits}
 use Rattle.set_report.proofs.text.QuestionDisplay.fmt.Goals as goal
