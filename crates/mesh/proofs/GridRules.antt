@@ -72,100 +72,78 @@ side_of : (o : Option ℕ) (s g : ℕ) → at_side o s ≡ Some g → (d : ℕ) 
 side_of None s g e = absurd cc
 side_of (Some d) s g e = let q : g ≡ 6 * d + s = cc in (d, refl, q)
 
--- the side after a side, in its triangle
-abbrev turn : ℕ → ℕ
-turn zero = 1
-turn (suc zero) = 2
-turn (suc (suc zero)) = 0
-turn (suc (suc (suc zero))) = 4
-turn (suc (suc (suc (suc zero)))) = 5
-turn (suc (suc (suc (suc (suc s))))) = 3
-
+-- `next` of a side's number is that of the side after it, in its triangle
 module _ (V : ℕ) (some : 0 < V) where
-  across_at : (d s g : ℕ) → g ≡ 6 * d + s → s < 6 → across V (g / 6) (g % 6) ≡ across V d s
-  across_at d s g e l = let p : g / 6 ≡ d = omega arith in let q : g % 6 ≡ s = omega arith in ap (λ x. across V x (g % 6)) p ∙ ap (across V d) q
-
-  start_at : (d s g : ℕ) → g ≡ 6 * d + s → s < 6 → grid_start V g ≡ corner V d s
-  start_at d s g e l = let p : g / 6 ≡ d = omega arith in let q : g % 6 ≡ s = omega arith in ap (λ x. corner V x (g % 6)) p ∙ ap (corner V d) q
+  -- what a function gives at the cell and the side of a half-edge
+  at_cell : {A : Type 0} (F : ℕ → ℕ → A) (d s g : ℕ) → g ≡ 6 * d + s → s < 6 → F (g / 6) (g % 6) ≡ F d s
+  at_cell F d s g e l = let p : g / 6 ≡ d = omega arith in let q : g % 6 ≡ s = omega arith in ap (λ x. F x (g % 6)) p ∙ ap (F d) q
 
   back_at : (c s g : ℕ) → s < 6 → across V c s ≡ Some g → across V (g / 6) (g % 6) ≡ Some (6 * c + s)
   back_at c zero g l e =
       let (d, p, q) = side_of (upper V c) 3 g e in
-      across_at d 3 g q (omega arith) ∙ ap Some (omega (arith, upper_is V some c d p))
-  back_at c (suc zero) g l e = let q : g ≡ 6 * c + 4 = cc in across_at c 4 g q (omega arith)
+      at_cell (across V) d 3 g q (omega arith) ∙ ap Some (omega (arith, upper_is V some c d p))
+  back_at c (suc zero) g l e = let q : g ≡ 6 * c + 4 = cc in at_cell (across V) c 4 g q (omega arith)
   back_at c (suc (suc zero)) g l e =
       let (d, p, q) = side_of (left V c) 5 g e in
       let (m, n) = left_is V some c d p in
-      across_at d 5 g q (omega arith) ∙ ap (λ o. at_side o 2) (right_from V some d n) ∙ ap Some (omega arith)
+      at_cell (across V) d 5 g q (omega arith) ∙ ap (λ o. at_side o 2) (right_from V some d n) ∙ ap Some (omega arith)
   back_at c (suc (suc (suc zero))) g l e =
       let q : g ≡ 6 * (c + V) + 0 = cc in
-      across_at (c + V) 0 g q (omega arith) ∙ ap (λ o. at_side o 3) (upper_from V some c)
-  back_at c (suc (suc (suc (suc zero)))) g l e = let q : g ≡ 6 * c + 1 = cc in across_at c 1 g q (omega arith)
+      at_cell (across V) (c + V) 0 g q (omega arith) ∙ ap (λ o. at_side o 3) (upper_from V some c)
+  back_at c (suc (suc (suc (suc zero)))) g l e = let q : g ≡ 6 * c + 1 = cc in at_cell (across V) c 1 g q (omega arith)
   back_at c (suc (suc (suc (suc (suc zero))))) g l e =
       let (d, p, q) = side_of (right V c) 2 g e in
       let (m, n) = right_is V some c d p in
-      across_at d 2 g q (omega arith) ∙ ap (λ x. at_side (left V x) 5) m ∙ ap (λ o. at_side o 5) (left_from V some c n)
+      at_cell (across V) d 2 g q (omega arith) ∙ ap (λ x. at_side (left V x) 5) m ∙ ap (λ o. at_side o 5) (left_from V some c n)
   back_at c (suc (suc (suc (suc (suc (suc s)))))) g l e = absurd (omega arith)
 
-  along_at : (c s g : ℕ) → s < 6 → across V c s ≡ Some g → grid_start V g ≡ corner V c (turn s)
+  along_at : (c s g : ℕ) → s < 6 → across V c s ≡ Some g → grid_start V g ≡ corner V c (next s)
   along_at c zero g l e =
       let (d, p, q) = side_of (upper V c) 3 g e in
       let m = upper_is V some c d p in
       let r = down_row V some d in
       let k = down_column V some d in
-      start_at d 3 g q (omega arith) ∙ sym (ap (λ x. corner V x 1) m ∙ ap (λ y. point V y ((d + V) % V + 1)) r ∙ ap (λ y. point V (d / V + 1) (y + 1)) k)
-  along_at c (suc zero) g l e = let q : g ≡ 6 * c + 4 = cc in start_at c 4 g q (omega arith)
+      at_cell (corner V) d 3 g q (omega arith) ∙ sym (ap (λ x. corner V x 1) m ∙ ap (λ y. point V y ((d + V) % V + 1)) r ∙ ap (λ y. point V (d / V + 1) (y + 1)) k)
+  along_at c (suc zero) g l e = let q : g ≡ 6 * c + 4 = cc in at_cell (corner V) c 4 g q (omega arith)
   along_at c (suc (suc zero)) g l e =
       let (d, p, q) = side_of (left V c) 5 g e in
       let (m, n) = left_is V some c d p in
       let r = right_row V some d n in
       let k = right_column V some d n in
-      start_at d 5 g q (omega arith) ∙ sym (ap (λ x. corner V x 0) m ∙ ap (λ y. point V y ((d + 1) % V)) r ∙ ap (point V (d / V)) k)
+      at_cell (corner V) d 5 g q (omega arith) ∙ sym (ap (λ x. corner V x 0) m ∙ ap (λ y. point V y ((d + 1) % V)) r ∙ ap (point V (d / V)) k)
   along_at c (suc (suc (suc zero))) g l e =
       let q : g ≡ 6 * (c + V) + 0 = cc in
       let r = down_row V some c in
       let k = down_column V some c in
-      start_at (c + V) 0 g q (omega arith) ∙ ap (λ y. point V y ((c + V) % V)) r ∙ ap (point V (c / V + 1)) k
-  along_at c (suc (suc (suc (suc zero)))) g l e = let q : g ≡ 6 * c + 1 = cc in start_at c 1 g q (omega arith)
+      at_cell (corner V) (c + V) 0 g q (omega arith) ∙ ap (λ y. point V y ((c + V) % V)) r ∙ ap (point V (c / V + 1)) k
+  along_at c (suc (suc (suc (suc zero)))) g l e = let q : g ≡ 6 * c + 1 = cc in at_cell (corner V) c 1 g q (omega arith)
   along_at c (suc (suc (suc (suc (suc zero))))) g l e =
       let (d, p, q) = side_of (right V c) 2 g e in
       let (m, n) = right_is V some c d p in
       let r = right_row V some c n in
       let k = right_column V some c n in
-      start_at d 2 g q (omega arith) ∙ ap (λ x. corner V x 2) m ∙ ap (λ y. point V (y + 1) ((c + 1) % V)) r ∙ ap (point V (c / V + 1)) k
+      at_cell (corner V) d 2 g q (omega arith) ∙ ap (λ x. corner V x 2) m ∙ ap (λ y. point V (y + 1) ((c + 1) % V)) r ∙ ap (point V (c / V + 1)) k
   along_at c (suc (suc (suc (suc (suc (suc s)))))) g l e = absurd (omega arith)
 
-  next_at : (c s : ℕ) → s < 6 → next (6 * c + s) ≡ 6 * c + turn s
-  next_at c zero l = omega arith
-  next_at c (suc zero) l = omega arith
-  next_at c (suc (suc zero)) l = omega arith
-  next_at c (suc (suc (suc zero))) l = omega arith
-  next_at c (suc (suc (suc (suc zero)))) l = omega arith
-  next_at c (suc (suc (suc (suc (suc zero))))) l = omega arith
-  next_at c (suc (suc (suc (suc (suc (suc s)))))) l = absurd (omega arith)
-
-  turn_below : (s : ℕ) → turn s < 6
-  turn_below zero = omega arith
-  turn_below (suc zero) = omega arith
-  turn_below (suc (suc zero)) = omega arith
-  turn_below (suc (suc (suc zero))) = omega arith
-  turn_below (suc (suc (suc (suc zero)))) = omega arith
-  turn_below (suc (suc (suc (suc (suc s))))) = omega arith
+  next_at : (c s : ℕ) → s < 6 → next (6 * c + s) ≡ 6 * c + next s
+  next_at c s l = omega arith
 
   -- where a half-edge ends
-  end_at : (h : ℕ) → grid_start V (next h) ≡ corner V (h / 6) (turn (h % 6))
+  end_at : (h : ℕ) → grid_start V (next h) ≡ corner V (h / 6) (next (h % 6))
   end_at h =
       let l : h % 6 < 6 = omega arith in
       let e : h ≡ 6 * (h / 6) + h % 6 = omega arith in
-      start_at (h / 6) (turn (h % 6)) (next h) (ap next e ∙ next_at (h / 6) (h % 6) l) (turn_below (h % 6))
+      let b : next (h % 6) < 6 = omega arith in
+      at_cell (corner V) (h / 6) (next (h % 6)) (next h) (ap next e ∙ next_at (h / 6) (h % 6) l) b
 
-  differ : (c s : ℕ) → corner V c s ≡ corner V c (turn s) → ⊥
-  differ c zero e = omega arith
-  differ c (suc zero) e = omega arith
-  differ c (suc (suc zero)) e = omega arith
-  differ c (suc (suc (suc zero))) e = omega arith
-  differ c (suc (suc (suc (suc zero)))) e = omega arith
-  differ c (suc (suc (suc (suc (suc s))))) e = omega arith
+  differ : (c s : ℕ) → s < 6 → corner V c s ≡ corner V c (next s) → ⊥
+  differ c zero l e = omega arith
+  differ c (suc zero) l e = omega arith
+  differ c (suc (suc zero)) l e = omega arith
+  differ c (suc (suc (suc zero))) l e = omega arith
+  differ c (suc (suc (suc (suc zero)))) l e = omega arith
+  differ c (suc (suc (suc (suc (suc zero))))) l e = omega arith
+  differ c (suc (suc (suc (suc (suc (suc s)))))) l e = omega arith
 
   inside : (H c s : ℕ) → c < (H - 1) * V → corner V c s < (V + 1) * H
   inside H c s l =
@@ -264,11 +242,11 @@ module _ (W H s : ℕ) (rs : List ℕ) (l : Limits W H s rs) where
   same_triangle : (h : ℕ) → next h / 3 ≡ h / 3
   same_triangle h = omega arith
 
-  end_is : (h : ℕ) → grid_present W H rs (h / 3) ≡ true → end_of (grid W H s rs) h ≡ corner (W - 1) (h / 6) (turn (h % 6))
+  end_is : (h : ℕ) → grid_present W H rs (h / 3) ≡ true → end_of (grid W H s rs) h ≡ corner (W - 1) (h / 6) (next (h % 6))
   end_is h p = start_of (next h) (ap (grid_present W H rs) (same_triangle h) ∙ p) ∙ end_at (W - 1) some h
 
   apart : (h : ℕ) → grid_present W H rs (h / 3) ≡ true → (grid W H s rs).start h ≡ end_of (grid W H s rs) h → ⊥
-  apart h p e = differ (W - 1) some (h / 6) (h % 6) (sym (start_of h p) ∙ e ∙ end_is h p)
+  apart h p e = differ (W - 1) some (h / 6) (h % 6) (omega arith) (sym (start_of h p) ∙ e ∙ end_is h p)
 
   record Twins (h g : ℕ) : Type 0 where
     here : grid_present W H rs (h / 3) ≡ true

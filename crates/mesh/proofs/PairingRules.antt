@@ -132,12 +132,6 @@ pub lowest_found : (test : ℕ → Bool) (count k : ℕ) → find test (range_wi
 lowest_found test zero k = refl
 lowest_found test (suc count) k = ap (cond (test k) (Some k)) (lowest_found test count (k + 1))
 
-paired_now : (start : ℕ → ℕ) (twins : List ℕ) (h g : ℕ) → get_or twins h 0 ≡ no_twin → mate start twins h ≡ Some g → set (set twins h g) g h ≡ pair_one start twins h
-paired_now start twins h g f e = paired_as start twins h (Some g) f e
-
-paired_none : (start : ℕ → ℕ) (twins : List ℕ) (h : ℕ) → get_or twins h 0 ≡ no_twin → mate start twins h ≡ None → twins ≡ pair_one start twins h
-paired_none start twins h f e = paired_as start twins h None f e
-
 -- every number below g fails, so the hunt may begin at g
 pub lowest_skip : (test : ℕ → Bool) (count k g : ℕ) → k ≤ g → g ≤ k + count → ((x : ℕ) → k ≤ x → x < g → test x ≡ false) → lowest test count k ≡ lowest test (k + count - g) g
 lowest_skip test zero k g a b f = let e : k + zero - g ≡ 0 = omega arith in sym (ap (λ c. lowest test c g) e)
@@ -184,10 +178,10 @@ module _ (start : ℕ → ℕ) (n : ℕ) (few : n ≤ 196608) (apart : Apart sta
   ]
     where
       go : get_or twins k 0 ≡ no_twin → (o : Option ℕ) → mate start twins k ≡ o → get_or twins x 0 ≡ no_twin
-      go d None p = ap (λ t. get_or t x 0) (paired_none start twins k d p) ∙ e
+      go d None p = ap (λ t. get_or t x 0) (paired_as start twins k None d p) ∙ e
       go d (Some g) p =
           let inside : g < n = omega (arith, (mate_is start twins k g p).1) in
-          let new : get_or (set (set twins k g) g k) x 0 ≡ no_twin = ap (λ t. get_or t x 0) (paired_now start twins k g d p) ∙ e in
+          let new : get_or (set (set twins k g) g k) x 0 ≡ no_twin = ap (λ t. get_or t x 0) (paired_as start twins k (Some g) d p) ∙ e in
           grind (arith, common_steps)
 
   -- a half-edge that its own turn left free has no free partner
@@ -205,7 +199,7 @@ module _ (start : ℕ → ℕ) (n : ℕ) (few : n ≤ 196608) (apart : Apart sta
           grind (arith, nat_tests)
       go (Some g) p =
           let inside : g < n = omega (arith, (mate_is start twins k g p).1) in
-          let new : get_or (set (set twins k g) g k) k 0 ≡ no_twin = ap (λ t. get_or t k 0) (paired_now start twins k g here p) ∙ e in
+          let new : get_or (set (set twins k g) g k) k 0 ≡ no_twin = ap (λ t. get_or t k 0) (paired_as start twins k (Some g) here p) ∙ e in
           absurd (grind (arith, common_steps))
 
   -- after k turns, a free half-edge below k has no free partner
