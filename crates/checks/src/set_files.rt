@@ -18,26 +18,15 @@ const fn refused(number: u32, line: usize, word: usize) -> Option<Refusal> {
     Some(Refusal { number, at })
 }
 
-const fn good(file: &'static [u8], points: usize, triangles: usize) -> Case {
-    Case {
-        file,
-        refusal: None,
-        points,
-        triangles,
-    }
-}
-
-const fn bad(
+const fn reading(
     file: &'static [u8],
-    number: u32,
-    line: usize,
-    word: usize,
+    refusal: Option<Refusal>,
     points: usize,
     triangles: usize,
 ) -> Case {
     Case {
         file,
-        refusal: refused(number, line, word),
+        refusal,
         points,
         triangles,
     }
@@ -62,22 +51,22 @@ fn all_hold(rt: &(impl Abort + AllocGlobal), cases: &[Case]) {
 #[test]
 fn lines_and_words(rt: HostRuntime) {
     let cases = [
-        good(b"", 0, 0),
-        good(b"\n\n \t \n", 0, 0),
-        good(b"# v 1\n  # f\n#", 0, 0),
-        good(b"v 1 2 3", 1, 0),
-        good(b"v 1 2 3\n", 1, 0),
-        good(b"\t v\t1  2\t\t3 \n", 1, 0),
-        bad(b"v 1 2 3\r\n", 4, 1, 4, 0, 0),
-        bad(b"v 1 2 3 \r\n", 3, 1, 0, 0, 0),
-        bad(b"\r\n", 2, 1, 1, 0, 0),
-        bad(b"vv 1 2 3", 2, 1, 1, 0, 0),
-        bad(b"V 1 2 3", 2, 1, 1, 0, 0),
-        bad(b"\n\nv 1 2 3\n\xff\xfe", 2, 4, 1, 1, 0),
-        bad(b"v 1 2", 3, 1, 0, 0, 0),
-        bad(b"v 1 2 3 4", 3, 1, 0, 0, 0),
-        bad(b"v 1 2 3 # no comment here", 3, 1, 0, 0, 0),
-        bad(b"v", 3, 1, 0, 0, 0),
+        reading(b"", None, 0, 0),
+        reading(b"\n\n \t \n", None, 0, 0),
+        reading(b"# v 1\n  # f\n#", None, 0, 0),
+        reading(b"v 1 2 3", None, 1, 0),
+        reading(b"v 1 2 3\n", None, 1, 0),
+        reading(b"\t v\t1  2\t\t3 \n", None, 1, 0),
+        reading(b"v 1 2 3\r\n", refused(4, 1, 4), 0, 0),
+        reading(b"v 1 2 3 \r\n", refused(3, 1, 0), 0, 0),
+        reading(b"\r\n", refused(2, 1, 1), 0, 0),
+        reading(b"vv 1 2 3", refused(2, 1, 1), 0, 0),
+        reading(b"V 1 2 3", refused(2, 1, 1), 0, 0),
+        reading(b"\n\nv 1 2 3\n\xff\xfe", refused(2, 4, 1), 1, 0),
+        reading(b"v 1 2", refused(3, 1, 0), 0, 0),
+        reading(b"v 1 2 3 4", refused(3, 1, 0), 0, 0),
+        reading(b"v 1 2 3 # no comment here", refused(3, 1, 0), 0, 0),
+        reading(b"v", refused(3, 1, 0), 0, 0),
     ];
     all_hold(&rt, &cases);
 }
@@ -85,25 +74,25 @@ fn lines_and_words(rt: HostRuntime) {
 #[test]
 fn numbers(rt: HostRuntime) {
     let cases = [
-        good(b"v 10000 0 0", 1, 0),
-        good(b"v -10000 10000 -10000", 1, 0),
-        good(b"v 00001 -0 -00009", 1, 0),
-        bad(b"v 10001 0 0", 5, 1, 2, 0, 0),
-        bad(b"v -10001 0 0", 5, 1, 2, 0, 0),
-        bad(b"v 0 99999 0", 5, 1, 3, 0, 0),
-        bad(b"v 0 0 -99999", 5, 1, 4, 0, 0),
-        bad(b"v 100000 0 0", 4, 1, 2, 0, 0),
-        bad(b"v 0 000000 0", 4, 1, 3, 0, 0),
-        bad(b"v 0 0 -", 4, 1, 4, 0, 0),
-        bad(b"v +1 0 0", 4, 1, 2, 0, 0),
-        bad(b"v --1 0 0", 4, 1, 2, 0, 0),
-        bad(b"v 1. 0 0", 4, 1, 2, 0, 0),
-        bad(b"v 0 1\xb2 0", 4, 1, 3, 0, 0),
-        bad(b"v 0 :0 0", 4, 1, 3, 0, 0),
-        bad(b"v 0 /0 0", 4, 1, 3, 0, 0),
+        reading(b"v 10000 0 0", None, 1, 0),
+        reading(b"v -10000 10000 -10000", None, 1, 0),
+        reading(b"v 00001 -0 -00009", None, 1, 0),
+        reading(b"v 10001 0 0", refused(5, 1, 2), 0, 0),
+        reading(b"v -10001 0 0", refused(5, 1, 2), 0, 0),
+        reading(b"v 0 99999 0", refused(5, 1, 3), 0, 0),
+        reading(b"v 0 0 -99999", refused(5, 1, 4), 0, 0),
+        reading(b"v 100000 0 0", refused(4, 1, 2), 0, 0),
+        reading(b"v 0 000000 0", refused(4, 1, 3), 0, 0),
+        reading(b"v 0 0 -", refused(4, 1, 4), 0, 0),
+        reading(b"v +1 0 0", refused(4, 1, 2), 0, 0),
+        reading(b"v --1 0 0", refused(4, 1, 2), 0, 0),
+        reading(b"v 1. 0 0", refused(4, 1, 2), 0, 0),
+        reading(b"v 0 1\xb2 0", refused(4, 1, 3), 0, 0),
+        reading(b"v 0 :0 0", refused(4, 1, 3), 0, 0),
+        reading(b"v 0 /0 0", refused(4, 1, 3), 0, 0),
         // the leftmost word is judged whole before the next
-        bad(b"v 10001 x 0", 5, 1, 2, 0, 0),
-        bad(b"v 0 0 0\nv x 10001 0", 4, 2, 2, 1, 0),
+        reading(b"v 10001 x 0", refused(5, 1, 2), 0, 0),
+        reading(b"v 0 0 0\nv x 10001 0", refused(4, 2, 2), 1, 0),
     ];
     all_hold(&rt, &cases);
 }
@@ -111,20 +100,53 @@ fn numbers(rt: HostRuntime) {
 #[test]
 fn faces(rt: HostRuntime) {
     let cases = [
-        good(b"v 0 0 0\nv 1 0 0\nv 0 1 0\nf 1 2 3", 3, 1),
-        bad(b"f 1 2 3", 5, 1, 2, 0, 0),
-        bad(b"v 0 0 0\nv 1 0 0\nv 0 1 0\nf 0 1 2", 5, 4, 2, 3, 0),
-        bad(b"v 0 0 0\nv 1 0 0\nv 0 1 0\nf 1 2 4\n", 5, 4, 4, 3, 0),
-        bad(b"v 0 0 0\nv 1 0 0\nv 0 1 0\nf 1 -2 3", 5, 4, 3, 3, 0),
-        bad(b"v 0 0 0\nv 1 0 0\nv 0 1 0\nf 1 2/2 3", 4, 4, 3, 3, 0),
-        bad(b"v 0 0 0\nv 1 0 0\nv 0 1 0\nf 1 1 2", 6, 4, 0, 3, 0),
-        bad(b"v 0 0 0\nv 1 0 0\nv 0 1 0\nf 1 2 2", 6, 4, 0, 3, 0),
-        bad(b"v 0 0 0\nv 1 0 0\nv 0 1 0\nf 3 2 3", 6, 4, 0, 3, 0),
-        bad(
-            b"v 0 0 0\nv 1 0 0\nv 0 1 0\nf 1 2 3\n# again\nf 3 2 1\nf 1 2",
+        reading(b"v 0 0 0\nv 1 0 0\nv 0 1 0\nf 1 2 3", None, 3, 1),
+        reading(b"f 1 2 3", refused(5, 1, 2), 0, 0),
+        reading(
+            b"v 0 0 0\nv 1 0 0\nv 0 1 0\nf 0 1 2",
+            refused(5, 4, 2),
             3,
-            7,
             0,
+        ),
+        reading(
+            b"v 0 0 0\nv 1 0 0\nv 0 1 0\nf 1 2 4\n",
+            refused(5, 4, 4),
+            3,
+            0,
+        ),
+        reading(
+            b"v 0 0 0\nv 1 0 0\nv 0 1 0\nf 1 -2 3",
+            refused(5, 4, 3),
+            3,
+            0,
+        ),
+        reading(
+            b"v 0 0 0\nv 1 0 0\nv 0 1 0\nf 1 2/2 3",
+            refused(4, 4, 3),
+            3,
+            0,
+        ),
+        reading(
+            b"v 0 0 0\nv 1 0 0\nv 0 1 0\nf 1 1 2",
+            refused(6, 4, 0),
+            3,
+            0,
+        ),
+        reading(
+            b"v 0 0 0\nv 1 0 0\nv 0 1 0\nf 1 2 2",
+            refused(6, 4, 0),
+            3,
+            0,
+        ),
+        reading(
+            b"v 0 0 0\nv 1 0 0\nv 0 1 0\nf 3 2 3",
+            refused(6, 4, 0),
+            3,
+            0,
+        ),
+        reading(
+            b"v 0 0 0\nv 1 0 0\nv 0 1 0\nf 1 2 3\n# again\nf 3 2 1\nf 1 2",
+            refused(3, 7, 0),
             3,
             2,
         ),

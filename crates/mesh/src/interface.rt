@@ -24,11 +24,11 @@ pub trait Mesh {
     fn present(&self, t: u32) -> bool
         ensures { result ≡ (meaning self.now).present t };
 
-    // The point where a half-edge starts.
+    // The point where a half-edge starts; by rule 0 where its triangle is absent.
     fn start(&self, h: u32) -> u32
         ensures { result ≡ (meaning self.now).start h };
 
-    // Where a point lies.
+    // Where a point lies; by rule the origin for a point that the mesh has not.
     fn place(&self, p: u32) -> Point
         ensures { result ≡ (meaning self.now).place p };
 

@@ -240,7 +240,7 @@ fn depth_grids(rt: HostRuntime) -> Result<(), Fail> {
     assert_eq!(rt; grid.place(1), at(50, 0, 10));
     assert_eq!(rt; grid.place(3), at(50, 50, 0));
     starts_are(&rt, &grid, &[0, 1, 2, 0, 0, 0]);
-    twins_are(&rt, &grid, &[None, None, None, None, None, None]);
+    twins_are(&rt, &grid, &[None; 6]);
     replies_past_the_end(&rt, &grid);
     // two cells in a row, then in a column
     grid.fill(3, 2, 50, &[11, 12, 13, 14, 15, 16])?;

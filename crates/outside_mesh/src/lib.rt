@@ -53,6 +53,7 @@ impl Mesh for Fan {
         if !self.present(t) {
             return 0;
         }
+        // By the number of the side, as the rules count.
         match h % 3 {
             0 => 0,
             side => t + side,
@@ -76,6 +77,7 @@ impl Mesh for Fan {
         if !self.present(t) {
             return None;
         }
+        // By the number of the side, as the rules count.
         match h % 3 {
             0 => h.checked_sub(1),
             1 => None,

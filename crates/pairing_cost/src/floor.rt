@@ -45,7 +45,7 @@ impl Floor {
     {
         let mut triangles = Vec::new(heap);
         let width = self.columns + 1;
-        // A `for`: the bounds of a cell do not reach a closure within a closure.
+        // A `for`: no list is proved of a `flat_map` whose closure gives an array.
         for r in 0..self.rows {
             for c in 0..self.columns {
                 triangles.extend_from_slice(&halves(r * width + c, width))?;

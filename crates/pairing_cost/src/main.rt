@@ -1,5 +1,5 @@
 // What pairing costs: flat floors of three sizes, with their triangles in the order of drawing and shuffled.
-// With the argument `quick` it leaves out the largest floor and the times, so that its output is always the same.
+// With an argument, as `quick`, it leaves out the largest floor and the times, so that its output is always the same.
 #![tactic(auto)]
 
 mod floor;

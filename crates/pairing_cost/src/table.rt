@@ -94,6 +94,7 @@ impl Line {
         let start = Instant::now(rt)?;
         let paired = pair(&points, &triangles, &mut twins);
         let time = start.elapsed(rt)?;
+        // Words of its own: by `?` alone the program would print the refusal's.
         paired.map_err(|_| anyhow!("this floor cannot be paired"))?;
         let counted = edges_of(&points, &triangles, &twins);
         let edges = counted.map_err(|_| anyhow!("this floor is no mesh"))?;
