@@ -9,9 +9,9 @@ use std::fmt;
 #[derive(Clone, Copy, Debug, PartialEq, Eq)]
 pub enum MeshRefusal {
     // Are the settings and readings of a grid in limits?
-    Grid,
+    Grid = 9,
     // Do the lists keep the limits and rules of a mesh?
-    Lists,
+    Lists = 10,
 }
 
 impl MeshRefusal {
@@ -19,10 +19,7 @@ impl MeshRefusal {
     pub fn number(self) -> u32
         ensures { result ≡ number_of self }
     {
-        match self {
-            MeshRefusal::Grid => 9,
-            MeshRefusal::Lists => 10,
-        }
+        self as u32
     }
 }
 
