@@ -28,16 +28,11 @@ impl fmt::Display for MeshRefusal {
     ghost output = { λ refusal. Some (question_of refusal) };
 
     fn fmt<W: fmt::Write>(&self, f: &mut fmt::Formatter<W>) -> fmt::Result {
-        match self {
-            MeshRefusal::Grid => write!(
-                f,
-                "are the grid's columns, rows and pitch in limits, with one reading for each point, each at most 10000?"
-            ),
-            MeshRefusal::Lists => write!(
-                f,
-                "do the lists keep the limits and the rules of a mesh?"
-            ),
-        }
+        f.write_str(match self {
+            MeshRefusal::Grid =>
+                "are the grid's columns, rows and pitch in limits, with one reading for each point, each at most 10000?",
+            MeshRefusal::Lists => "do the lists keep the limits and the rules of a mesh?",
+        })
     }
 }
 
