@@ -29,6 +29,7 @@ impl fmt::Display for MeshRefusal {
 
     fn fmt<W: fmt::Write>(&self, f: &mut fmt::Formatter<W>) -> fmt::Result {
         f.write_str(match self {
+            // The text as it is printed, numbers and all, so that it can be read here.
             MeshRefusal::Grid =>
                 "are the grid's columns, rows and pitch in limits, with one reading for each point, each at most 10000?",
             MeshRefusal::Lists => "do the lists keep the limits and the rules of a mesh?",

@@ -68,6 +68,7 @@ impl<'a> Mesh for DepthGrid<'a> {
         if self.present(triangle_of(h)) {
             self.side(h).corner()
         } else {
+            // By rule 0 where the triangle is absent.
             0
         }
     }
