@@ -64,7 +64,7 @@ fn corner(t: &Triangle, k: u32) -> u32
 }
 
 impl<'a> FittingSet<'a> {
-    // Of lists that fit, with a place for the twin of each half-edge.
+    // The set of these lists, if they fit and there is a place for each twin.
     #[tactic(auto, unfolding(mesh::specs::Stored::lists_fit))]
     pub(crate) fn new(
         points: &'a [Point],
@@ -90,7 +90,7 @@ impl<'a> FittingSet<'a> {
         3 * self.triangles.len() as u32
     }
 
-    // The point where a half-edge starts; 0 past the last triangle.
+    // The point where a half-edge starts; by rule 0 past the last triangle.
     #[tactic(auto, unfolding(mesh::specs::Stored::stored_start))]
     pub(crate) fn start(&self, h: u32) -> u32
         ensures { result ≡ stored_start self.now.triangles.now h }

@@ -15,7 +15,7 @@ fn is_free(twins: &[u32], h: u32) -> bool
     twins.get(h as usize) == Some(&NO_TWIN)
 }
 
-// The twin list is lent, by rule, and each turn writes it: so it is passed along, and no part of the set.
+// The twin list is passed along: pairing lends it to write and a stored mesh to look at, so it is no part of the set.
 impl FittingSet<'_> {
     // Whether half-edge `g` has no twin and runs the other way between the points of `h`.
     fn suits(&self, twins: &[u32], h: u32, g: u32) -> bool

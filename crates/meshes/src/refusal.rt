@@ -9,9 +9,9 @@ use std::fmt;
 #[derive(Clone, Copy, Debug, PartialEq, Eq)]
 pub enum MeshRefusal {
     // Are the settings and readings of a grid in limits?
-    Grid,
+    Grid = 9,
     // Do the lists keep the limits and rules of a mesh?
-    Lists,
+    Lists = 10,
 }
 
 impl MeshRefusal {
@@ -19,10 +19,7 @@ impl MeshRefusal {
     pub fn number(self) -> u32
         ensures { result ≡ number_of self }
     {
-        match self {
-            MeshRefusal::Grid => 9,
-            MeshRefusal::Lists => 10,
-        }
+        self as u32
     }
 }
 
@@ -31,16 +28,12 @@ impl fmt::Display for MeshRefusal {
     ghost output = { λ refusal. Some (question_of refusal) };
 
     fn fmt<W: fmt::Write>(&self, f: &mut fmt::Formatter<W>) -> fmt::Result {
-        match self {
-            MeshRefusal::Grid => write!(
-                f,
-                "are the grid's columns, rows and pitch in limits, with one reading for each point, each at most 10000?"
-            ),
-            MeshRefusal::Lists => write!(
-                f,
-                "do the lists keep the limits and the rules of a mesh?"
-            ),
-        }
+        f.write_str(match self {
+            // The text as it is printed, numbers and all, so that it can be read here.
+            MeshRefusal::Grid =>
+                "are the grid's columns, rows and pitch in limits, with one reading for each point, each at most 10000?",
+            MeshRefusal::Lists => "do the lists keep the limits and the rules of a mesh?",
+        })
     }
 }
 

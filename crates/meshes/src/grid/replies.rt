@@ -68,16 +68,18 @@ impl<'a> Mesh for DepthGrid<'a> {
         if self.present(triangle_of(h)) {
             self.side(h).corner()
         } else {
+            // By rule 0 where the triangle is absent.
             0
         }
     }
 
     fn place(&self, p: u32) -> Point {
-        // A `match`: the chain of `map` and `unwrap_or_default` is no shorter, and needs a lemma for its proof.
-        match self.readings.get(p as usize) {
-            Some(&reading) => lifted(p % self.columns, p / self.columns, self.pitch, reading),
-            None => Point::default(),
-        }
+        // Locals, since the proof does not close with a closure that reads them through `self`.
+        let (column, row, pitch) = (p % self.columns, p / self.columns, self.pitch);
+        self.readings.get(p as usize).map_or(
+            Point::default(),
+            |&reading| lifted(column, row, pitch, reading),
+        )
     }
 
     fn twin(&self, h: u32) -> Option<u32> {

@@ -31,7 +31,7 @@ impl Side {
         }
     }
 
-    // The half-edge across the side, were all triangles present, and always a cell below.
+    // The half-edge across the side, as if all triangles were present and a cell lay below every cell.
     pub(super) fn across(&self) -> Option<u32>
         ensures { result ≡ across_of self.now.cells self.now.cell self.now.side }
     {

@@ -10,6 +10,8 @@ use crate::fitting::FittingSet;
 use crate::refusal::MeshRefusal;
 use mesh::{NO_TWIN, Point, Triangle};
 
+// The twin list is passed along, as in pairing: a stored mesh lends it to look at, and pairing to write, so it is no
+// part of the set.
 impl FittingSet<'_> {
     // Whether half-edge `g` has `h` as its twin, and runs the other way.
     fn answered(&self, twins: &[u32], h: u32, g: u32) -> bool
@@ -42,6 +44,7 @@ impl<'a> StoredMesh<'a> {
         }
     }
 
+    // The mesh over these lists, if they keep the limits and the rules.
     #[tactic(auto, unfolding(mesh::specs::Stored::stored_fits))]
     fn new(
         points: &'a [Point],

@@ -27,6 +27,7 @@ impl<'a> Mesh for StoredMesh<'a> {
     }
 
     fn place(&self, p: u32) -> Point {
+        // By rule the origin past the last point.
         self.set.points.get(p as usize).copied().unwrap_or_default()
     }
 
