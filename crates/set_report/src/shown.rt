@@ -26,7 +26,7 @@ impl fmt::Display for ShownByte {
     }
 }
 
-// All of some bytes.
+// Some bytes, each as it is shown.
 #[derive(Clone, Copy)]
 struct ShownBytes<'a>(&'a [u8]);
 
