@@ -31,8 +31,8 @@ impl From<LineFault> for FileFault {
     }
 }
 
-// What a fault tells: the number of the question that was answered with no, and where. By rule the form of every refusal.
-// The line is 0 where the question is not about one line, and the word where it is not about one word.
+// What a fault tells: the number of the question that was answered with no, and where. By rule the form of a set file's
+// refusals. The line is 0 where the question is not about one line, and the word where it is not about one word.
 #[derive(Clone, Copy, Debug, PartialEq, Eq)]
 pub struct Refusal {
     pub number: u32,

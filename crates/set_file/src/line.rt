@@ -14,6 +14,7 @@ use mesh::{ENTRY_LIMIT, Point, Triangle};
 use std::marker::Model;
 
 // The lines of a file, from the front on: in contracts the list of those that are left.
+// The library's `split` would give one empty line more behind a last LF.
 #[derive(Debug, Drop)]
 pub struct Lines<'a>(&'a [u8]);
 

@@ -8,7 +8,7 @@ ghost use Rattle.set_file.specs.Tokens.{is_comment};
 
 use std::marker::Model;
 
-// A word by its kind, its bytes a part of the line: by a rule of the format an enum, whose cases hold the bytes.
+// A word by its kind, its bytes a part of the line: by a rule of the project an enum, whose cases hold the bytes.
 #[derive(Clone, Copy, Debug)]
 pub enum Token<'a> {
     // A word that begins with `#`.
@@ -47,6 +47,7 @@ pub(crate) fn cut<'a, F: Fn(u8) -> bool>(bytes: &'a [u8], ends: F) -> (&'a [u8],
 
 // The words of a line, from the front on: in contracts the list of those that are left. Apart from `Lines`, since words
 // leave out what parts them, and a line may be empty.
+// A chain of the library's has no name by which it could be passed on.
 #[derive(Debug, Drop)]
 pub struct Words<'a>(&'a [u8]);
 

@@ -5,6 +5,7 @@ ghost use Rattle.set_file.specs.Questions.{word_question, line_question, refusal
 use crate::file::Refusal;
 use crate::line::LineFault;
 use crate::word::WordFault;
+use mesh::{COORDINATE_LIMIT, ENTRY_LIMIT};
 use std::error::Error;
 use std::fmt;
 
@@ -20,7 +21,7 @@ impl fmt::Display for WordFault {
             ),
             WordFault::Range(_) => write!(
                 f,
-                "is the number in range: after `v` from -10000 to 10000, after `f` an earlier point?"
+                "is the number in range: after `v` from -{COORDINATE_LIMIT} to {COORDINATE_LIMIT}, after `f` an earlier point?"
             ),
         }
     }
@@ -38,7 +39,7 @@ impl fmt::Display for LineFault {
             LineFault::Count(_) => write!(f, "are there exactly three words after the first?"),
             LineFault::Word(fault) => write!(f, "{fault}"),
             LineFault::Same(_) => write!(f, "do the corners name three different points?"),
-            LineFault::Full(_) => write!(f, "does the list hold fewer than 65536 entries?"),
+            LineFault::Full(_) => write!(f, "does the list hold fewer than {ENTRY_LIMIT} entries?"),
             LineFault::Memory(_) => write!(f, "is there memory for one more entry?"),
         }
     }

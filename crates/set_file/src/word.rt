@@ -21,7 +21,7 @@ pub enum WordFault {
 }
 
 // The number that one to five digits write.
-// A loop, since in a fold no clause could say that the number so far is small, and each step would need a check.
+// A loop: in a fold plain sums are not proved to fit, and checked ones test at each step what cannot happen.
 fn digits(ds: &[u8]) -> Option<i32>
     ensures value { result ≡ plus (unsigned_of ds.now) }
     ensures small { IfSome result (λ v. (pos 0 ≤ℤ v) × (v ≤ℤ pos 99999)) }

@@ -26,7 +26,7 @@ impl fmt::Display for ShownByte {
     }
 }
 
-// All of some bytes.
+// Some bytes, each as it is shown.
 #[derive(Clone, Copy)]
 struct ShownBytes<'a>(&'a [u8]);
 
@@ -51,11 +51,9 @@ impl fmt::Display for Shown<'_> {
 
     fn fmt<W: fmt::Write>(&self, f: &mut fmt::Formatter<W>) -> fmt::Result {
         let word = self.0;
-        if word.len() <= SHOWN_BYTES {
-            write!(f, "{}", ShownBytes(word))
-        } else {
-            let (head, _) = word.split_at(SHOWN_BYTES);
-            write!(f, "{}...", ShownBytes(head))
+        match word.split_at_checked(SHOWN_BYTES) {
+            Some((head, [_, ..])) => write!(f, "{}...", ShownBytes(head)),
+            _ => write!(f, "{}", ShownBytes(word)),
         }
     }
 }
