@@ -14,7 +14,7 @@ use mesh::{ENTRY_LIMIT, Point, Triangle};
 use std::marker::Model;
 
 // The lines of a file, from the front on: in contracts the list of those that are left.
-// The library's `split` would give one empty line more behind a last LF.
+// The library's `split` would give one empty line more, behind a last LF and in an empty file.
 #[derive(Debug, Drop)]
 pub struct Lines<'a>(&'a [u8]);
 

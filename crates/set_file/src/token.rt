@@ -47,7 +47,7 @@ pub(crate) fn cut<'a, F: Fn(u8) -> bool>(bytes: &'a [u8], ends: F) -> (&'a [u8],
 
 // The words of a line, from the front on: in contracts the list of those that are left. Apart from `Lines`, since words
 // leave out what parts them, and a line may be empty.
-// A chain of the library's has no name by which it could be passed on.
+// A chain of the library's would make each function over words generic.
 #[derive(Debug, Drop)]
 pub struct Words<'a>(&'a [u8]);
 

@@ -9,7 +9,7 @@ use mesh::{COORDINATE_LIMIT, ENTRY_LIMIT};
 use std::error::Error;
 use std::fmt;
 
-// The question that the fault answers with no, as the rules say it, numbers and all.
+// The question that the fault answers with no.
 impl fmt::Display for WordFault {
     ghost output = { λ fault. Some (word_question fault) };
 
@@ -29,7 +29,7 @@ impl fmt::Display for WordFault {
 
 impl Error for WordFault {}
 
-// The question that the fault answers with no, as the rules say it, numbers and all.
+// The question that the fault answers with no.
 impl fmt::Display for LineFault {
     ghost output = { λ fault. Some (line_question fault) };
 
