@@ -1,10 +1,12 @@
 // The lines of the table: what pairing one floor costs.
-ghost use Rattle.std.specs.Prelude.{◌≡◌, if◌then◌else◌, Some, Ok, Err};
+ghost use Rattle.std.specs.Prelude.{◌≡◌, if◌then◌else◌, Some, Ok, Err, IfOk};
 ghost use Rattle.std.specs.Fmt.{padded};
 ghost use Rattle.std.specs.List.Sorted.{IsPermutation};
 ghost use Rattle.mesh.specs.Stored.{stored, stored_fits};
 ghost use Rattle.mesh_counts.specs.Edges.{edges_of};
 ghost use Rattle.pairing_cost.specs.Table.{order_name, line_text};
+ghost use Rattle.pairing_cost.specs.Measured.{Measured};
+ghost use Rattle.pairing_cost.specs.declared.table.Order.TheVariants.{Drawn};
 ghost use Rattle.meshes.specs.declared.refusal.MeshRefusal.{MeshRefusal};
 
 use crate::floor::Floor;
@@ -25,7 +27,8 @@ pub enum Order {
 impl Order {
     // Brings triangles that stand as they are drawn into this order.
     fn arrange(self, triangles: &mut [Triangle])
-        ensures { IsPermutation triangles.old triangles.new }
+        ensures same { IsPermutation triangles.old triangles.new }
+        ensures drawn { self ≡ Drawn → triangles.new ≡ triangles.old }
     {
         match self {
             Order::Drawn => {}
@@ -85,7 +88,9 @@ pub struct Line {
 
 impl Line {
     // Pairs this floor, with its triangles in this order.
-    pub fn of(rt: &HostRuntime, floor: Floor, order: Order) -> anyhow::Result<Line> {
+    pub fn of(rt: &HostRuntime, floor: Floor, order: Order) -> anyhow::Result<Line>
+        ensures { IfOk result (Measured floor.columns floor.rows order) }
+    {
         let heap = rt.alloc();
         let points = floor.points(heap)?;
         let mut triangles = floor.triangles(heap)?;
