@@ -192,7 +192,7 @@ module _ (W H s : ℕ) (rs : List ℕ) (l : Limits W H s rs) where
   some : 0 < W - 1
   some = omega (arith, l.wide)
 
-  present_below : (t : ℕ) → grid_present W H rs t ≡ true → t < grid_triangles W H
+  pub present_below : (t : ℕ) → grid_present W H rs t ≡ true → t < grid_triangles W H
   present_below t e = grind (arith, nat_tests)
 
   absent_past : (t : ℕ) → grid_triangles W H ≤ t → grid_present W H rs t ≡ false
@@ -207,12 +207,12 @@ module _ (W H s : ℕ) (rs : List ℕ) (l : Limits W H s rs) where
   few_places : W * H ≤ 65536
   few_places = omega (arith, l.places)
 
-  column_fits : (p : ℕ) → p % W * s ≤ 9900
+  pub column_fits : (p : ℕ) → p % W * s ≤ 9900
   column_fits p =
       let c : p % W < W = mod_below p W (omega (arith, l.wide)) in
       mul-le (p % W) s 180 55 (omega (arith, l.narrow)) l.close
 
-  row_fits : (p : ℕ) → p < W * H → p / W * s ≤ 9900
+  pub row_fits : (p : ℕ) → p < W * H → p / W * s ≤ 9900
   row_fits p h =
       let r : p / W < H = div_below p W H (omega (arith, l.wide)) (omega arith) in
       mul-le (p / W) s 180 55 (omega (arith, l.low)) l.close
@@ -229,7 +229,7 @@ module _ (W H s : ℕ) (rs : List ℕ) (l : Limits W H s rs) where
     | inr h ↦ subst Near (sym (far p h)) (record { x = omega arith; y = omega arith; z = omega arith })
   ]
 
-  corner_inside : (h : ℕ) → h < 3 * grid_triangles W H → grid_start (W - 1) h < W * H
+  pub corner_inside : (h : ℕ) → h < 3 * grid_triangles W H → grid_start (W - 1) h < W * H
   corner_inside h t =
       let c : h / 6 < (H - 1) * (W - 1) = omega arith in
       let i = inside (W - 1) some H (h / 6) (h % 6) c in

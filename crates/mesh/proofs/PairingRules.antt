@@ -29,11 +29,11 @@ unfolding mate
 mate_is start twins h g e = let (a, b, d) = lowest_is (suits start twins h) (length twins) 0 g e in (a, omega arith)
 
 -- a turn, by whether its half-edge has a twin
-paired_before : (start : ℕ → ℕ) (twins : List ℕ) (h : ℕ) → (get_or twins h 0 ≡ no_twin → ⊥) → twins ≡ pair_one start twins h
+pub paired_before : (start : ℕ → ℕ) (twins : List ℕ) (h : ℕ) → (get_or twins h 0 ≡ no_twin → ⊥) → twins ≡ pair_one start twins h
 unfolding pair_one
 paired_before start twins h n = grind (arith, nat_tests)
 
-paired_as : (start : ℕ → ℕ) (twins : List ℕ) (h : ℕ) (o : Option ℕ) → get_or twins h 0 ≡ no_twin → mate start twins h ≡ o → joined twins h o ≡ pair_one start twins h
+pub paired_as : (start : ℕ → ℕ) (twins : List ℕ) (h : ℕ) (o : Option ℕ) → get_or twins h 0 ≡ no_twin → mate start twins h ≡ o → joined twins h o ≡ pair_one start twins h
 unfolding pair_one
 paired_as start twins h o f e = grind (arith, nat_tests)
 

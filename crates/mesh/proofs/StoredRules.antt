@@ -86,13 +86,17 @@ pub record Mutual (start : ℕ → ℕ) (twins : List ℕ) (h g : ℕ) : Type 0 
   pub along : start g ≡ start (next h)
   pub against : start (next g) ≡ start h
 
-record Listed (points : List Point) (triangles : List Triangle) (twins : List ℕ) : Type 0 where
-  set : set_fits points triangles ≡ true
-  many : length twins ≡ 3 * length triangles
+pub record Listed (points : List Point) (triangles : List Triangle) (twins : List ℕ) : Type 0 where
+  pub set : set_fits points triangles ≡ true
+  pub many : length twins ≡ 3 * length triangles
+  pub few : length twins ≤ 196608
 
-listed : (points : List Point) (triangles : List Triangle) (twins : List ℕ) → lists_fit points triangles twins ≡ true → Listed points triangles twins
+pub listed : (points : List Point) (triangles : List Triangle) (twins : List ℕ) → lists_fit points triangles twins ≡ true → Listed points triangles twins
 unfolding lists_fit
-listed points triangles twins e = record { set = grind (arith, nat_tests); many = grind (arith, nat_tests) }
+listed points triangles twins e =
+    let s : set_fits points triangles ≡ true = grind (arith, nat_tests) in
+    let n : length twins ≡ 3 * length triangles = grind (arith, nat_tests) in
+    record { set = s; many = n; few = omega (arith, n, (fitting points triangles s).few_triangles) }
 
 pub lists_from : (points : List Point) (triangles : List Triangle) (twins : List ℕ) → set_fits points triangles ≡ true → length twins ≡ 3 * length triangles → lists_fit points triangles twins ≡ true
 unfolding lists_fit

@@ -1,10 +1,11 @@
 -- Edges add up to half-edges: as many half-edges have a lower twin as have a higher one, since twins are mutual.
-use Rattle.std.proofs.Common.{◌≡◌, ℕ, zero, suc, ◌+◌, ◌*◌, ◌/◌, ◌<◌, Bool, true, false, cond, eqb, ltb, Some, None, Option, sym, refl, ap, ◌∙◌, arith}
+use Rattle.std.proofs.Common.{◌≡◌, ℕ, zero, suc, ◌+◌, ◌*◌, ◌/◌, ◌<◌, ◌≤◌, Bool, true, false, cond, eqb, ltb, Some, None, Option, sym, refl, ap, ◌∙◌, arith}
 use Rattle.std.specs.Cmp.{both_ways}
 use Rattle.std.proofs.lemmas.Bool.Decides.{nat_tests}
 use Rattle.mesh.specs.Model.{MeshModel, Lawful}
 use Rattle.mesh.proofs.Rules.{twin_present, twin_inside, twins_stand}
 use Rattle.mesh_counts.specs.Edges.{edges_below, present_count, EdgeLaw}
+use Rattle.mesh_counts.proofs.Counting.{few_more}
 use Rattle.mesh_counts.proofs.Totals.{total, total_same, total_plus, total_none, total_swap, total_one}
 
 -- the twin is the half-edge g
@@ -72,6 +73,20 @@ module _ (m : MeshModel) (l : Lawful m) where
       let second : suc (3 * t) / 3 ≡ t = omega arith in
       let third : suc (suc (3 * t)) / 3 ≡ t = omega arith in
       ap (total (λ h. one_if (m.present (h / 3)))) e ∙ grind (arith, three_each t)
+
+-- no more edges than half-edges
+few_below : (m : MeshModel) (n : ℕ) → ((edges_below m n).shared ≤ n) × ((edges_below m n).border ≤ n)
+few_below m zero = (omega arith, omega arith)
+few_below m (suc n) =
+    let (s, b) = few_below m n in
+    let more = few_more m n n (edges_below m n) s b in
+    (omega (arith, more.0), omega (arith, more.1))
+
+pub few_shared : (m : MeshModel) → Lawful m → (n : ℕ) → (edges_below m n).shared ≤ n
+few_shared m l n = (few_below m n).0
+
+pub few_border : (m : MeshModel) → Lawful m → (n : ℕ) → (edges_below m n).border ≤ n
+few_border m l n = (few_below m n).1
 
 pub edge_law : EdgeLaw
 edge_law m l =

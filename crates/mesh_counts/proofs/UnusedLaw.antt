@@ -11,7 +11,7 @@ use Rattle.std.proofs.lemmas.Bool.{or_right}
 use Rattle.mesh.specs.Model.{MeshModel, Lawful}
 use Rattle.mesh_counts.specs.Unused.{used_below, corner_below, UnusedLaw}
 
-length_used : (m : MeshModel) (n : ℕ) → length (used_below m n) ≡ m.points
+pub length_used : (m : MeshModel) (n : ℕ) → length (used_below m n) ≡ m.points
 length_used m zero = length-replicate m.points false
 length_used m (suc n) = grind (arith, common_steps, length_used m n)
 

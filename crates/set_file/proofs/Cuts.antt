@@ -21,7 +21,7 @@ abbrev pub except : (ℕ → Bool) → ℕ → Bool
 except p b = not (p b)
 
 -- the first piece runs to the first mark, and the others are those of what follows the mark
-first_piece : (p : ℕ → Bool) (b : ℕ) (bs : List ℕ) → pieces p (b ∷ bs) ≡ before_first p (b ∷ bs) ∷ pieces p (after_first p (b ∷ bs))
+pub first_piece : (p : ℕ → Bool) (b : ℕ) (bs : List ℕ) → pieces p (b ∷ bs) ≡ before_first p (b ∷ bs) ∷ pieces p (after_first p (b ∷ bs))
 first_piece p b [] = grind (arith, common_steps, nat_tests)
 first_piece p b (c ∷ cs) = let h = first_piece p c cs in grind (arith, common_steps, nat_tests)
 
@@ -51,7 +51,7 @@ starts p (b ∷ bs) =
     (cases_Bool (p b))
 
 -- marks at the front make no word
-filled_skip : (p : ℕ → Bool) (bs : List ℕ) → filled (pieces p bs) ≡ filled (pieces p (drop (position_or_len (except p) bs) bs))
+pub filled_skip : (p : ℕ → Bool) (bs : List ℕ) → filled (pieces p bs) ≡ filled (pieces p (drop (position_or_len (except p) bs) bs))
 filled_skip p [] = refl
 filled_skip p (b ∷ bs) =
     ⊎_elim
