@@ -1,6 +1,6 @@
 // Edges: a half-edge and its twin are one edge, and so is a half-edge without a twin.
-ghost use Rattle.std.specs.Prelude.{◌≡◌, ◌<◌};
-ghost use Rattle.mesh_counts.specs.Edges.{counted, edges_of};
+ghost use Rattle.std.specs.Prelude.{◌≡◌, ◌<◌, ◌≤◌};
+ghost use Rattle.mesh_counts.specs.Edges.{counted, edges_below, edges_of};
 
 use mesh::{Mesh, triangle_of};
 
@@ -33,9 +33,17 @@ fn count_one<M: Mesh>(mesh: &M, h: u32, edges: Edges) -> Edges
     }
 }
 
+// The edges of the half-edges below `n`.
+fn count_below<M: Mesh>(mesh: &M, n: u32) -> Edges
+    requires { n ≤ 196608 }
+    ensures { result ≡ edges_below (M.Mesh.meaning mesh.now) n }
+{
+    (0..n).fold(Edges::default(), |edges, h| count_one(mesh, h, edges))
+}
+
 // The edges of the present triangles.
 pub fn count_edges<M: Mesh>(mesh: &M) -> Edges
     ensures { result ≡ edges_of (M.Mesh.meaning mesh.now) }
 {
-    (0..3 * mesh.triangles()).fold(Edges::default(), |edges, h| count_one(mesh, h, edges))
+    count_below(mesh, 3 * mesh.triangles())
 }

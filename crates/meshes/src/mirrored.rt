@@ -50,6 +50,7 @@ impl<'a, M: Mesh> Mesh for Mirrored<'a, M> {
         self.below.present(t)
     }
 
+    #[tactic(auto, using(mesh::proofs::MirrorRules::end_capped))]
     fn start(&self, h: u32) -> u32 {
         end_of(self.below, flip(h))
     }
@@ -58,6 +59,7 @@ impl<'a, M: Mesh> Mesh for Mirrored<'a, M> {
         opposite(self.below.place(p))
     }
 
+    #[tactic(auto, using(mesh::proofs::MirrorRules::twin_capped, mesh::proofs::Rules::twin_below))]
     fn twin(&self, h: u32) -> Option<u32> {
         self.below.twin(flip(h)).map(flip)
     }

@@ -43,6 +43,7 @@ impl<'a> DepthGrid<'a> {
     }
 
     // The grid of these readings, if all is in limits.
+    #[tactic(auto, using(mesh::proofs::GridRules::limits))]
     fn new(columns: u32, rows: u32, pitch: u32, readings: &'a [u16]) -> Option<DepthGrid<'a>>
         ensures fits { is_some result ≡ grid_fits columns rows pitch readings.now }
         ensures means { IfSome result (λ mesh. grid_of mesh ≡ grid columns rows pitch readings.now) }
